@@ -1,0 +1,4 @@
+pub mod Sums
+pub mod Wiring
+pub mod Marks
+pub mod Duality
