@@ -1,0 +1,21 @@
+// The calls on a sheet as values, and what each of them answers.
+use crate::refusal::Refusal;
+use wires::wire::Wire;
+use crate::refusal::RefusalDebug;
+use crate::refusal::RefusalPartialEq;
+
+#[derive(Clone, Copy)]
+pub enum Call<'a> {
+    Seat { id: u32, site: u32, current: i32 },
+    Move { id: u32, site: u32 },
+    Alter { id: u32, current: i32 },
+    Lift { id: u32 },
+    Audit { wires: &'a [Wire], marks: &'a [u32] },
+}
+
+#[derive(Clone, Copy, PartialEq, Eq, Debug)]
+pub enum Answer {
+    Done,
+    Area(u64),
+    Refused(Refusal),
+}

@@ -1,0 +1,25 @@
+// A sheet keeps one net over one ruler, which it owns, so nothing changes that ruler while the sheet lasts.
+ghost use mathlib.Core.Path.{_≡_};
+ghost use Rattle.sheet.specs.Ledger.{empty};
+use crate::net::Net;
+use ruler::ruler::Ruler;
+
+mod edits;
+
+#[derive(Drop)]
+pub struct Sheet<R: Ruler> {
+    ruler: R,
+    net: Net,
+}
+
+impl<R: Ruler> Sheet<R> {
+    pub fn open(ruler: R) -> Sheet<R>
+        ensures kept { λ r. ⌜ r .ruler ≡ ruler ⌝ }
+        ensures rows { λ r. ⌜ r .net .rows ≡ empty ⌝ }
+    {
+        Sheet {
+            ruler,
+            net: Net { rows: [None; 64] },
+        }
+    }
+}
