@@ -1,3 +1,4 @@
 pub mod Refusals
 pub mod Questions
+pub mod Audit
 pub mod Ledger

@@ -1,8 +1,8 @@
 // The calls on a sheet as values, and what each of them answers.
 use crate::refusal::Refusal;
-use wires::wire::Wire;
 use crate::refusal::RefusalDebug;
 use crate::refusal::RefusalPartialEq;
+use wires::wire::Wire;
 
 #[derive(Clone, Copy)]
 pub enum Call<'a> {

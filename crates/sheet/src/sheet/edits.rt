@@ -1,9 +1,12 @@
 // The edits: each is put to its questions first, and then changes one row and no other.
 ghost use mathlib.Core.Path.{_≡_};
-ghost use Prim.Native.Nat.{_-_};
-ghost use lib.ListN.{getD};
-ghost use Rattle.sheet.specs.Questions.{id-in-range, id-is-free, id-is-seated, current-is-allowed, site-is-known, allowed};
-ghost use Rattle.sheet.specs.Ledger.{seat-asked, move-asked, alter-asked, lift-asked, done, seat-written, fed};
+ghost use mathlib.Core.List.{[], _∷_};
+ghost use Prim.Native.Nat.{_≤_};
+ghost use Rattle.std.specs.declared.option.Option.the-variants.{Some};
+ghost use Rattle.std.specs.declared.result.Result.the-variants.{Ok, Err};
+ghost use Rattle.sheet.specs.Questions.{allowed, first-no, id-in-range, id-is-seated, row-of};
+ghost use Rattle.sheet.specs.Ledger.{asked, fed, outcome};
+ghost use Rattle.sheet.specs.declared.call.Call.the-variants.{Seat, Move, Alter, Lift};
 use crate::refusal::Refusal;
 use crate::sheet::Sheet;
 use ruler::ruler::Ruler;
@@ -16,8 +19,58 @@ fn is_allowed(current: i32) -> bool
 }
 
 impl<R: Ruler> Sheet<R> {
+    pub fn seat(&mut self, id: u32, site: u32, current: i32) -> Result<(), Refusal>
+        ensures answer { λ r. ⌜ r ≡ outcome (asked (meaning (now (self .entry) .ruler)) (now (self .entry) .net .rows) (Seat id site current)) tt ⌝ }
+        ensures after { λ _. ⌜ now (self .exit) .net .rows ≡ fed (meaning (now (self .entry) .ruler)) (now (self .entry) .net .rows) (Seat id site current) ⌝ }
+        ensures same { λ _. ⌜ now (self .exit) .ruler ≡ now (self .entry) .ruler ⌝ }
+    {
+        if let Some(refusal) = self.seat_question(id, site, current) {
+            return Err(refusal);
+        }
+        self.net.rows[id as usize - 1] = Some(Terminal { site, current });
+        Ok(())
+    }
+
+    pub fn move_to(&mut self, id: u32, site: u32) -> Result<(), Refusal>
+        ensures answer { λ r. ⌜ r ≡ outcome (asked (meaning (now (self .entry) .ruler)) (now (self .entry) .net .rows) (Move id site)) tt ⌝ }
+        ensures after { λ _. ⌜ now (self .exit) .net .rows ≡ fed (meaning (now (self .entry) .ruler)) (now (self .entry) .net .rows) (Move id site) ⌝ }
+        ensures same { λ _. ⌜ now (self .exit) .ruler ≡ now (self .entry) .ruler ⌝ }
+    {
+        let terminal = self.seated(id)?;
+        let Some(_) = self.ruler.length(site, site) else {
+            return Err(Refusal::SiteUnknown { id });
+        };
+        let current = terminal.current;
+        self.net.rows[id as usize - 1] = Some(Terminal { site, current });
+        Ok(())
+    }
+
+    pub fn alter(&mut self, id: u32, current: i32) -> Result<(), Refusal>
+        ensures answer { λ r. ⌜ r ≡ outcome (asked (meaning (now (self .entry) .ruler)) (now (self .entry) .net .rows) (Alter id current)) tt ⌝ }
+        ensures after { λ _. ⌜ now (self .exit) .net .rows ≡ fed (meaning (now (self .entry) .ruler)) (now (self .entry) .net .rows) (Alter id current) ⌝ }
+        ensures same { λ _. ⌜ now (self .exit) .ruler ≡ now (self .entry) .ruler ⌝ }
+    {
+        let terminal = self.seated(id)?;
+        if !is_allowed(current) {
+            return Err(Refusal::CurrentOutOfRange { id });
+        }
+        let site = terminal.site;
+        self.net.rows[id as usize - 1] = Some(Terminal { site, current });
+        Ok(())
+    }
+
+    pub fn lift(&mut self, id: u32) -> Result<(), Refusal>
+        ensures answer { λ r. ⌜ r ≡ outcome (asked (meaning (now (self .entry) .ruler)) (now (self .entry) .net .rows) (Lift id)) tt ⌝ }
+        ensures after { λ _. ⌜ now (self .exit) .net .rows ≡ fed (meaning (now (self .entry) .ruler)) (now (self .entry) .net .rows) (Lift id) ⌝ }
+        ensures same { λ _. ⌜ now (self .exit) .ruler ≡ now (self .entry) .ruler ⌝ }
+    {
+        let _ = self.seated(id)?;
+        self.net.rows[id as usize - 1] = None;
+        Ok(())
+    }
+
     fn seat_question(&self, id: u32, site: u32, current: i32) -> Option<Refusal>
-        ensures { λ r. ⌜ r ≡ seat-asked (meaning (now (self .entry) .ruler)) (now (self .entry) .net .rows) id site current ⌝ }
+        ensures { λ r. ⌜ r ≡ asked (meaning (now (self .entry) .ruler)) (now (self .entry) .net .rows) (Seat id site current) ⌝ }
     {
         if id < 1 || id > 64 {
             return Some(Refusal::IdOutOfRange { id });
@@ -35,15 +88,17 @@ impl<R: Ruler> Sheet<R> {
         None
     }
 
-    pub fn seat(&mut self, id: u32, site: u32, current: i32) -> Result<(), Refusal>
-        ensures answer { λ r. ⌜ r ≡ done (seat-asked (meaning (now (self .entry) .ruler)) (now (self .entry) .net .rows) id site current) ⌝ }
-        ensures after { λ r. ⌜ now (self .exit) .net .rows ≡ fed (seat-asked (meaning (now (self .entry) .ruler)) (now (self .entry) .net .rows) id site current) (now (self .entry) .net .rows) (seat-written (now (self .entry) .net .rows) id site current) ⌝ }
-        ensures same { λ r. ⌜ now (self .exit) .ruler ≡ now (self .entry) .ruler ⌝ }
+    // The terminal of an id, or the first no of the two questions that ask for one.
+    fn seated(&self, id: u32) -> Result<Terminal, Refusal>
+        ensures { λ r. ⌜ elim r [ Ok t ↦ (1 ≤ id) × (id ≤ 64) × (row-of (now (self .entry) .net .rows) id ≡ Some t) | Err e ↦ Some e ≡ first-no (id-in-range id ∷ id-is-seated (now (self .entry) .net .rows) id ∷ []) ] ⌝ }
     {
-        if let Some(refusal) = self.seat_question(id, site, current) {
-            return Err(refusal);
+        if id < 1 || id > 64 {
+            return Err(Refusal::IdOutOfRange { id });
         }
-        self.net.rows[id as usize - 1] = Some(Terminal { site, current });
-        Ok(())
+        let row = self.net.rows[id as usize - 1];
+        let Some(terminal) = row else {
+            return Err(Refusal::IdFree { id });
+        };
+        Ok(terminal)
     }
 }

@@ -1,0 +1,12 @@
+use mathlib.Core.List.{[], _∷_}
+use borrow.Author.Needs.{needs}
+use denote.Ref.{now}
+use Rattle.sheet.specs.Questions.{id-in-range, id-is-seated, current-is-allowed}
+use Rattle.sheet.proofs.Chains.{first-no-stays}
+use Rattle.sheet.proofs.sheet.Sheet.alter.Needs as need
+
+pub returns-in-Break-terminal : need.returns-in-Break-terminal
+returns-in-Break-terminal g c =
+    let id = c .args .id in
+    let stays = first-no-stays (id-in-range id ∷ id-is-seated (now (c .args .self) .net .rows) id ∷ []) (current-is-allowed id (c .args .current) ∷ []) _ (c .in-Break-terminal .ensures tt) in
+    search needs
