@@ -4,6 +4,7 @@ ghost use Rattle.sheet.specs.Ledger.{empty};
 use crate::net::Net;
 use ruler::ruler::Ruler;
 
+mod audit;
 mod edits;
 
 #[derive(Drop)]
