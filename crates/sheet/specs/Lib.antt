@@ -2,3 +2,4 @@ pub mod Refusals
 pub mod Questions
 pub mod Audit
 pub mod Ledger
+pub mod Law

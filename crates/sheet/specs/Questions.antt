@@ -1,5 +1,5 @@
 -- The questions that calls are put to. Each is passed by None; a no is the refusal.
-use mathlib.Core.Bool.{Bool, cond, not, _&&_, _||_}
+use mathlib.Core.Bool.{Bool, true, cond, not, _&&_}
 use mathlib.Core.List.{List, [], _∷_}
 use Prim.Native.Nat.{ℕ, _-_}
 use lib.Dec.{leb, eqb}
@@ -40,6 +40,11 @@ id-is-seated rows id = ask (isSome (row-of rows id)) (IdFree id)
 abbrev pub allowed : ℤ → Bool
 allowed (pos n) = leb 1 n && leb n 1000000
 allowed (negsuc n) = leb n 999999
+
+-- a row is empty, or its current is allowed
+abbrev pub row-allowed : Option Terminal → Bool
+row-allowed (Some t) = allowed (t .current)
+row-allowed None = true
 
 abbrev pub current-is-allowed : ℕ → ℤ → Option Refusal
 current-is-allowed id current = ask (allowed current) (CurrentOutOfRange id)

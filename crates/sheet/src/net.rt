@@ -1,10 +1,15 @@
 // The plain record of a net: a row for each id from 1 to 64, empty or with a terminal.
 ghost use mathlib.Core.Path.{_≡_};
-ghost use lib.ListN.{length};
+ghost use mathlib.Core.Bool.{true};
+ghost use Prim.Native.Nat.{ℕ};
+ghost use lib.ListN.{length, getD};
+ghost use Rattle.std.specs.declared.option.Option.the-variants.{None};
+ghost use Rattle.sheet.specs.Questions.{row-allowed};
 use wires::terminal::Terminal;
 
 #[derive(Clone, Copy)]
 pub struct Net {
     pub(crate) rows: [Option<Terminal>; 64],
     ghost full: { length rows ≡ 64 },
+    ghost ranged: { (k : ℕ) → row-allowed (getD rows k None) ≡ true },
 }
