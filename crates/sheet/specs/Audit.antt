@@ -13,7 +13,7 @@ use Rattle.ruler.specs.Meaning.{Meaning, measured}
 use Rattle.wires.specs.declared.terminal.Terminal.{Terminal}
 use Rattle.wires.specs.declared.wire.Wire.{Wire}
 use Rattle.wires.specs.Marks.{Pin, value}
-use Rattle.wires.specs.Wiring.{net, due, area, seated}
+use Rattle.wires.specs.Wiring.{net, due, area, lies, seated}
 use Rattle.sheet.specs.declared.refusal.Refusal.{Refusal}
 use Rattle.sheet.specs.declared.refusal.Refusal.the-variants.{MarkCount, WireCount, WireCurrent, WireSite, MarkOutOfRange, Unmet, MarksApart, AreaDiffers}
 use Rattle.sheet.specs.Questions.{ask, first-no}
@@ -51,9 +51,6 @@ carries w = leb 1 (w .current) && leb (w .current) 32000000
 
 abbrev pub currents-carry : List Wire → Option Refusal
 currents-carry ws = fault WireCurrent (lowest (λ i. not (carries (wire-at ws i))) (length ws))
-
-abbrev pub lies : Meaning → Wire → Bool
-lies m w = m .known (w .start) && m .known (w .end)
 
 abbrev pub sites-are-known : Meaning → List Wire → Option Refusal
 sites-are-known m ws = fault WireSite (lowest (λ i. not (lies m (wire-at ws i))) (length ws))

@@ -1,1 +1,11 @@
 pub mod Integers
+pub mod Sums
+pub mod Known
+pub mod Pairing
+pub mod WeakDuality
+pub mod Star
+pub mod Sites
+pub mod Heights
+pub mod Changes
+pub mod Potentials
+pub mod Completeness

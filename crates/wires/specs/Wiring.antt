@@ -1,6 +1,6 @@
 -- Lists of wires: net, meeting, area, least.
 use mathlib.Core.Path.{_≡_}
-use mathlib.Core.Bool.{true, cond}
+use mathlib.Core.Bool.{Bool, true, _&&_, cond}
 use mathlib.Core.List.{List, [], _∷_}
 use Prim.Native.Nat.{ℕ, _*_, _≤_}
 use lib.Dec.{eqb}
@@ -53,15 +53,23 @@ metal m w = w .current * m .span (w .start) (w .end)
 abbrev pub area : Meaning → List Wire → ℕ
 area m ws = total (metal m) ws
 
+-- the two ends of a wire are known, and those of all wires of a list
+abbrev pub lies : Meaning → Wire → Bool
+lies m w = m .known (w .start) && m .known (w .end)
+
+abbrev pub all-lie : Meaning → List Wire → Bool
+all-lie m [] = true
+all-lie m (w ∷ ws) = lies m w && all-lie m ws
+
+-- a list's area, absent where one of its sites is unknown
+abbrev pub measured-area : Meaning → List Wire → Option ℕ
+measured-area m ws = cond (all-lie m ws) (Some (area m ws)) None
+
 -- a list in whole currents that meets the terminals, and no list that meets them, in whole currents or in k-ths, has less area
 pub record Least (m : Meaning) (ts : List Terminal) (ws : List Wire) : Type 0 where
   pub over : Over m ws
   pub meets : Meets 1 ts ws
   pub least : (k : ℕ) → 1 ≤ k → (rival : List Wire) → Over m rival → Meets k ts rival → k * area m ws ≤ area m rival
-
--- the currents sum to 0
-abbrev pub Balanced : List Terminal → Type 0
-Balanced ts = sum (λ t. t .current) ts ≡ pos 0
 
 -- some list through known sites meets the terminals in k-ths
 pub record Met (m : Meaning) (ts : List Terminal) (k : ℕ) : Type 0 where

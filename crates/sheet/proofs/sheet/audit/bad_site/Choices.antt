@@ -1,5 +1,6 @@
 use mathlib.Core.Bool.{not}
-use Rattle.sheet.specs.Audit.{lies, wire-at}
+use Rattle.wires.specs.Wiring.{lies}
+use Rattle.sheet.specs.Audit.{wire-at}
 use Rattle.sheet.proofs.Lowest.{Clear}
 use Rattle.sheet.proofs.sheet.audit.bad_site.Given as given
 
