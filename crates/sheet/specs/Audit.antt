@@ -29,8 +29,11 @@ fault refusal (Some i) = Some (refusal i)
 fault refusal None = None
 
 -- a wire by its number, counted from 0
+abbrev pub no-wire : Wire
+no-wire = record { start = 0; end = 0; current = 0 }
+
 abbrev pub wire-at : List Wire → ℕ → Wire
-wire-at ws i = getD ws i (record { start = 0; end = 0; current = 0 })
+wire-at ws i = getD ws i no-wire
 
 -- a row and its mark by their number: entry i is of id i + 1
 abbrev pub row-at : List (Option Terminal) → ℕ → Option Terminal

@@ -4,14 +4,14 @@ use mathlib.Core.List.{List, [], _∷_, _++_}
 use Prim.Native.Nat.{ℕ, _+_, _<_}
 use native.Mathlib.Omega.{arith}
 use borrow.Author.Differences.{ints}
-use lib.IntN.{ℤ, pos, _+ℤ_}
+use lib.IntN.{ℤ, _+ℤ_}
 use lib.ListN.{length, getD, take}
 use Rattle.std.proofs.shelf.Lists.{take-more}
 use Rattle.std.specs.declared.option.Option.{Option}
 use Rattle.std.specs.declared.option.Option.the-variants.{Some, None}
 use Rattle.wires.specs.declared.terminal.Terminal.{Terminal}
 use Rattle.wires.specs.Sums.{sum, total}
-use Rattle.wires.specs.Wiring.{seated}
+use Rattle.wires.specs.Wiring.{seated, row-adds}
 
 pub sum-append : {A : Type 0} (f : A → ℤ) (xs ys : List A) → sum f (xs ++ ys) ≡ sum f xs +ℤ sum f ys
 sum-append f [] ys = omega (arith, ints)
@@ -26,11 +26,6 @@ sum-more f xs i d h = let e = sum-append f (take i xs) (getD xs i d ∷ []) in a
 
 pub total-more : {A : Type 0} (f : A → ℕ) (xs : List A) (i : ℕ) (d : A) → i < length xs → total f (take (i + 1) xs) ≡ total f (take i xs) + f (getD xs i d)
 total-more f xs i d h = let e = total-append f (take i xs) (getD xs i d ∷ []) in ap (total f) (take-more xs i d h) ∙ omega arith
-
--- what a row adds to a sum over the seated
-abbrev pub row-adds : (Terminal → ℤ) → Option Terminal → ℤ
-row-adds f (Some t) = f t
-row-adds f None = pos 0
 
 seated-push : (f : Terminal → ℤ) (rows : List (Option Terminal)) (r : Option Terminal) → sum f (seated (rows ++ r ∷ [])) ≡ sum f (seated rows) +ℤ row-adds f r
 seated-push f [] (Some t) = omega (arith, ints)

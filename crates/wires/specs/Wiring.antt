@@ -82,3 +82,8 @@ abbrev pub seated : List (Option Terminal) → List Terminal
 seated [] = []
 seated (Some t ∷ rows) = t ∷ seated rows
 seated (None ∷ rows) = seated rows
+
+-- what a row adds to a sum over the seated terminals
+abbrev pub row-adds : (Terminal → ℤ) → Option Terminal → ℤ
+row-adds f (Some t) = f t
+row-adds f None = pos 0

@@ -2,8 +2,10 @@
 ghost use mathlib.Core.Path.{_≡_};
 ghost use mathlib.Core.Bool.{not};
 ghost use lib.ListN.{length};
-ghost use Prim.Native.Nat.{_<_};
-ghost use Rattle.wires.specs.Wiring.{lies};
+ghost use Prim.Native.Nat.{_≤_, _<_};
+ghost use lib.IntN.{pos, negℤ};
+ghost use lib.Signed.{_≤ℤ_};
+ghost use Rattle.wires.specs.Wiring.{due, flow, lies, net, row-adds, seated, share};
 ghost use Rattle.sheet.specs.Audit.{carries, lowest, mark-fits, wire-at, row-at, mark-at, too-far, strained};
 use crate::net::Net;
 use crate::refusal::Refusal;
@@ -68,7 +70,60 @@ fn is_too_far<R: Ruler>(ruler: &R, a: Option<Terminal>, x: u32, b: Option<Termin
     u64::from(x) + u64::from(length) < u64::from(y)
 }
 
+// The amount, where it stands at the site.
+fn share_of(at: u32, site: u32, amount: i64) -> i64
+    ensures { λ r. ⌜ r ≡ share at site amount ⌝ }
+{
+    if at == site { amount } else { 0 }
+}
+
+// What a row seats at a site.
+fn due_of(row: Option<Terminal>, site: u32) -> i64
+    ensures due { λ r. ⌜ r ≡ row-adds (λ t. share (t .site) site (t .current)) row ⌝ }
+    ensures low { λ r. ⌜ negℤ (pos 2147483648) ≤ℤ r ⌝ }
+    ensures high { λ r. ⌜ r ≤ℤ pos 2147483648 ⌝ }
+{
+    match row {
+        Some(terminal) => share_of(terminal.site, site, i64::from(terminal.current)),
+        None => 0,
+    }
+}
+
+// What one wire adds to the net of a site.
+fn flow_of(site: u32, wire: Wire) -> i64
+    ensures flow { λ r. ⌜ r ≡ flow site wire ⌝ }
+    ensures low { λ r. ⌜ negℤ (pos 4294967296) ≤ℤ r ⌝ }
+    ensures high { λ r. ⌜ r ≤ℤ pos 4294967296 ⌝ }
+{
+    let current = i64::from(wire.current);
+    share_of(wire.start, site, current) - share_of(wire.end, site, current)
+}
+
+// The net of a site: what leaves it minus what arrives.
+fn net_of(wires: &[Wire], site: u32) -> i64
+    requires { ⌜ length (now wires) ≤ 1024 ⌝ }
+    ensures { λ r. ⌜ r ≡ net (now (wires .entry)) site ⌝ }
+{
+    let mut sum: i64 = 0;
+    for i in 0..wires.len() {
+        sum += flow_of(site, wires[i]);
+    }
+    sum
+}
+
 impl Net {
+    // The sum of the currents seated at a site.
+    fn due_at(&self, site: u32) -> i64
+        ensures { λ r. ⌜ r ≡ due (seated (now (self .entry) .rows)) site ⌝ }
+    {
+        let mut sum: i64 = 0;
+        for i in 0..64 {
+            let row = self.rows[i];
+            sum += due_of(row, site);
+        }
+        sum
+    }
+
     // The first row whose mark is out of range.
     fn bad_mark(&self, marks: &[u32]) -> Option<usize>
         requires { ⌜ length (now marks) ≡ 64 ⌝ }

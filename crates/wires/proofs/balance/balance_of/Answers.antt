@@ -9,9 +9,9 @@ use Rattle.std.specs.declared.option.Option.the-variants.{None}
 use Rattle.wires.specs.Duality.{Settled}
 use Rattle.wires.specs.declared.terminal.Terminal.{Terminal}
 use Rattle.wires.specs.Sums.{sum}
-use Rattle.wires.specs.Wiring.{seated}
+use Rattle.wires.specs.Wiring.{seated, row-adds}
 use Rattle.wires.proofs.Star.{settled}
-use Rattle.wires.proofs.Sums.{row-adds, seated-more}
+use Rattle.wires.proofs.Sums.{seated-more}
 use Rattle.wires.proofs.balance.balance_of.Needs as need
 use Rattle.wires.proofs.balance.balance_of.Needs.{in-Some, in-rest}
 
