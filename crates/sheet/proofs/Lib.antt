@@ -1,3 +1,4 @@
 pub mod Chains
 pub mod Lowest
 pub mod Rows
+pub mod Touched

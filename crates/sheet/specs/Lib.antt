@@ -3,3 +3,4 @@ pub mod Questions
 pub mod Audit
 pub mod Ledger
 pub mod Law
+pub mod Search

@@ -1,12 +1,14 @@
 // The audit of a filed plan against the sheet's terminals: one question a loop, each put to the whole list.
 ghost use mathlib.Core.Path.{_≡_};
 ghost use mathlib.Core.Bool.{not};
+ghost use mathlib.Core.List.{[]};
 ghost use lib.ListN.{length};
-ghost use Prim.Native.Nat.{_≤_, _<_};
+ghost use Prim.Native.Nat.{_^_, _≤_, _<_};
 ghost use lib.IntN.{pos, negℤ};
 ghost use lib.Signed.{_≤ℤ_};
 ghost use Rattle.wires.specs.Wiring.{due, flow, lies, net, row-adds, seated, share};
-ghost use Rattle.sheet.specs.Audit.{carries, lowest, mark-fits, wire-at, row-at, mark-at, too-far, strained};
+ghost use Rattle.sheet.specs.Audit.{carries, lowest, mark-fits, wire-at, row-at, mark-at, too-far, strained, unmet};
+ghost use Rattle.sheet.specs.Search.{lowered, IsSite, Looked};
 use crate::net::Net;
 use crate::refusal::Refusal;
 use crate::sheet::Sheet;
@@ -122,6 +124,60 @@ impl Net {
             sum += due_of(row, site);
         }
         sum
+    }
+
+    // Whether the net of a site is other than what is seated there.
+    fn is_unmet(&self, wires: &[Wire], site: u32) -> bool
+        requires { ⌜ length (now wires) ≤ 1024 ⌝ }
+        ensures { λ r. ⌜ r ≡ unmet (now (self .entry) .rows) (now (wires .entry)) site ⌝ }
+    {
+        net_of(wires, site) != self.due_at(site)
+    }
+
+    // The site found so far, or this one where it is lower and unmet.
+    fn lower_unmet(&self, wires: &[Wire], found: Option<u32>, site: u32) -> Option<u32>
+        requires { ⌜ length (now wires) ≤ 1024 ⌝ }
+        ensures lower { λ r. ⌜ r ≡ lowered (unmet (now (self .entry) .rows) (now (wires .entry))) found site ⌝ }
+        ensures site { λ r. ⌜ IsSite r ⌝ }
+    {
+        if let Some(low) = found {
+            if low <= site {
+                return found;
+            }
+        }
+        if self.is_unmet(wires, site) {
+            return Some(site);
+        }
+        found
+    }
+
+    // The smallest unmet site that a wire touches.
+    fn unmet_end(&self, wires: &[Wire]) -> Option<u32>
+        requires { ⌜ length (now wires) ≤ 1024 ⌝ }
+        ensures { λ r. ⌜ Looked (unmet (now (self .entry) .rows) (now (wires .entry))) r (now (wires .entry)) [] ⌝ }
+    {
+        let mut found = None;
+        for i in 0..wires.len() {
+            let wire = wires[i];
+            found = self.lower_unmet(wires, found, wire.start);
+            found = self.lower_unmet(wires, found, wire.end);
+        }
+        found
+    }
+
+    // The smallest unmet site: where no wire touches it, a terminal does.
+    fn unmet_site(&self, wires: &[Wire]) -> Option<u32>
+        requires { ⌜ length (now wires) ≤ 1024 ⌝ }
+        ensures { λ r. ⌜ r ≡ lowest (unmet (now (self .entry) .rows) (now (wires .entry))) (2 ^ 32) ⌝ }
+    {
+        let mut found = self.unmet_end(wires);
+        for i in 0..64 {
+            let row = self.rows[i];
+            if let Some(terminal) = row {
+                found = self.lower_unmet(wires, found, terminal.site);
+            }
+        }
+        found
     }
 
     // The first row whose mark is out of range.
