@@ -2,3 +2,4 @@ pub mod Chains
 pub mod Lowest
 pub mod Rows
 pub mod Touched
+pub mod Worth

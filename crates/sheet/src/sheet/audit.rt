@@ -7,7 +7,10 @@ ghost use Prim.Native.Nat.{_^_, _≤_, _<_};
 ghost use lib.IntN.{pos, negℤ};
 ghost use lib.Signed.{_≤ℤ_};
 ghost use Rattle.wires.specs.Wiring.{due, flow, lies, net, row-adds, seated, share};
-ghost use Rattle.sheet.specs.Audit.{carries, lowest, mark-fits, wire-at, row-at, mark-at, too-far, strained, unmet};
+ghost use mathlib.Core.Bool.{true};
+ghost use Rattle.wires.specs.Marks.{value, worth};
+ghost use Rattle.sheet.specs.Questions.{row-allowed};
+ghost use Rattle.sheet.specs.Audit.{carries, lowest, mark-fits, wire-at, row-at, mark-at, too-far, strained, unmet, pins};
 ghost use Rattle.sheet.specs.Search.{lowered, IsSite, Looked};
 use crate::net::Net;
 use crate::refusal::Refusal;
@@ -111,6 +114,19 @@ fn net_of(wires: &[Wire], site: u32) -> i64
         sum += flow_of(site, wires[i]);
     }
     sum
+}
+
+// Taken current × mark of a sink, less given current × mark of a source.
+fn worth_of(row: Option<Terminal>, mark: u32) -> i64
+    requires { ⌜ row-allowed row ≡ true ⌝ }
+    ensures worth { λ r. ⌜ r ≡ row-adds (λ t. worth (record { terminal = t; mark = mark })) row ⌝ }
+    ensures low { λ r. ⌜ negℤ (pos 4294967296000000) ≤ℤ r ⌝ }
+    ensures high { λ r. ⌜ r ≤ℤ pos 4294967296000000 ⌝ }
+{
+    match row {
+        Some(terminal) => -i64::from(terminal.current) * i64::from(mark),
+        None => 0,
+    }
 }
 
 impl Net {
@@ -220,5 +236,18 @@ impl Net {
             }
         }
         None
+    }
+
+    // The value of the marks on the seated terminals.
+    fn value_of(&self, marks: &[u32]) -> i64
+        requires { ⌜ length (now marks) ≡ 64 ⌝ }
+        ensures { λ r. ⌜ r ≡ value (pins (now (self .entry) .rows) (now (marks .entry))) ⌝ }
+    {
+        let mut value: i64 = 0;
+        for i in 0..64 {
+            let row = self.rows[i];
+            value += worth_of(row, marks[i]);
+        }
+        value
     }
 }
