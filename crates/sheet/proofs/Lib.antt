@@ -3,3 +3,4 @@ pub mod Lowest
 pub mod Rows
 pub mod Touched
 pub mod Worth
+pub mod Reading

@@ -51,3 +51,14 @@ lowest-clear bad (suc n) e k h = go (lowest-clear bad n) (lowest bad n) refl (ba
     go rest (Some i) below b here = let z : Some i ≡ None = sym (ap (next bad n) below) ∙ sym (step bad n) ∙ e in absurd (some-is-not-none i z)
     go rest None below true here = let z : Some n ≡ None = ap (λ b. cond b (Some n) None) (sym here) ∙ sym (ap (next bad n) below) ∙ sym (step bad n) ∙ e in absurd (some-is-not-none n z)
     go rest None below false here = elim (cases-lt k n) [ inl l ↦ rest below k l | inr l ↦ let same : k ≡ n = omega arith in ap bad same ∙ here ]
+
+-- what was found is below the end
+pub lowest-below : (bad : ℕ → Bool) (n i : ℕ) → Some i ≡ lowest bad n → i < n
+unfolding lowest
+lowest-below bad zero i e = absurd (some-is-not-none i e)
+lowest-below bad (suc n) i e = go (lowest-below bad n i) (lowest bad n) refl (bad n) refl
+  where
+    go : (Some i ≡ lowest bad n → i < n) → (o : Option ℕ) → lowest bad n ≡ o → (b : Bool) → bad n ≡ b → i < suc n
+    go rest (Some j) below b here = let h = rest (e ∙ step bad n ∙ ap (next bad n) below ∙ sym below) in omega arith
+    go rest None below true here = let z : Some i ≡ Some n = e ∙ step bad n ∙ ap (next bad n) below ∙ ap (λ b. cond b (Some n) None) here in let s : i ≡ n = cc in omega arith
+    go rest None below false here = let z : Some i ≡ None = e ∙ step bad n ∙ ap (next bad n) below ∙ ap (λ b. cond b (Some n) None) here in absurd (some-is-not-none i z)

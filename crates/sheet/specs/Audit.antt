@@ -1,6 +1,6 @@
 -- The audit of a filed plan: its questions, each put to the whole list before the next.
 use mathlib.Core.Bool.{Bool, true, false, cond, not, _&&_, _||_}
-use mathlib.Core.List.{List, [], _∷_}
+use mathlib.Core.List.{List, [], _∷_, _++_}
 use Prim.Native.Nat.{ℕ, zero, suc, _+_, _^_}
 use lib.Dec.{leb, ltb, eqb}
 use lib.IntN.{ℤ, pos}
@@ -105,6 +105,10 @@ pins (None ∷ rows) (mark ∷ marks) = pins rows marks
 abbrev pub area-is-value : Meaning → List (Option Terminal) → List Wire → List ℕ → Option Refusal
 area-is-value m rows ws marks = ask (not (differ (pos (area m ws)) (value (pins rows marks)))) AreaDiffers
 
+-- the questions in their order, the last apart
+abbrev pub form-questions : Meaning → List (Option Terminal) → List Wire → List ℕ → List (Option Refusal)
+form-questions m rows ws marks =
+    marks-are-64 marks ∷ wires-are-few ws ∷ currents-carry ws ∷ sites-are-known m ws ∷ marks-fit rows marks ∷ is-met rows ws ∷ marks-reach m rows marks ∷ []
+
 abbrev pub audit-asked : Meaning → List (Option Terminal) → List Wire → List ℕ → Option Refusal
-audit-asked m rows ws marks =
-    first-no (marks-are-64 marks ∷ wires-are-few ws ∷ currents-carry ws ∷ sites-are-known m ws ∷ marks-fit rows marks ∷ is-met rows ws ∷ marks-reach m rows marks ∷ area-is-value m rows ws marks ∷ [])
+audit-asked m rows ws marks = first-no (form-questions m rows ws marks ++ (area-is-value m rows ws marks ∷ []))

@@ -6,16 +6,19 @@ ghost use lib.ListN.{length};
 ghost use Prim.Native.Nat.{_^_, _≤_, _<_};
 ghost use lib.IntN.{pos, negℤ};
 ghost use lib.Signed.{_≤ℤ_};
-ghost use Rattle.wires.specs.Wiring.{due, flow, lies, net, row-adds, seated, share};
+ghost use Rattle.wires.specs.Wiring.{area, due, flow, lies, net, row-adds, seated, share};
 ghost use mathlib.Core.Bool.{true};
 ghost use Rattle.wires.specs.Marks.{value, worth};
-ghost use Rattle.sheet.specs.Questions.{row-allowed};
-ghost use Rattle.sheet.specs.Audit.{carries, lowest, mark-fits, wire-at, row-at, mark-at, too-far, strained, unmet, pins};
+ghost use Rattle.sheet.specs.Questions.{row-allowed, first-no};
+ghost use Rattle.sheet.specs.Audit.{carries, lowest, mark-fits, wire-at, row-at, mark-at, too-far, strained, unmet, pins, audit-asked, form-questions};
+ghost use Rattle.sheet.specs.Law.{Readable};
+ghost use Rattle.sheet.specs.Ledger.{outcome};
 ghost use Rattle.sheet.specs.Search.{lowered, IsSite, Looked};
 use crate::net::Net;
 use crate::refusal::Refusal;
 use crate::sheet::Sheet;
 use ruler::ruler::Ruler;
+use wires::area::area_of;
 use wires::terminal::Terminal;
 use wires::wire::Wire;
 
@@ -249,5 +252,61 @@ impl Net {
             value += worth_of(row, marks[i]);
         }
         value
+    }
+}
+
+impl<R: Ruler> Sheet<R> {
+    // Whether a filed list of wires uses the least metal, as its marks show; the answer is its area.
+    pub fn audit(&self, wires: &[Wire], marks: &[u32]) -> Result<u64, Refusal>
+        ensures { λ r. ⌜ r ≡ outcome (audit-asked (meaning (now (self .entry) .ruler)) (now (self .entry) .net .rows) (now (wires .entry)) (now (marks .entry))) (area (meaning (now (self .entry) .ruler)) (now (wires .entry))) ⌝ }
+    {
+        if let Some(refusal) = self.form_question(wires, marks) {
+            return Err(refusal);
+        }
+        let area = self.readable_area(wires);
+        if area as i64 != self.net.value_of(marks) {
+            return Err(Refusal::AreaDiffers);
+        }
+        Ok(area)
+    }
+
+    // All questions but the last.
+    fn form_question(&self, wires: &[Wire], marks: &[u32]) -> Option<Refusal>
+        ensures { λ r. ⌜ r ≡ first-no (form-questions (meaning (now (self .entry) .ruler)) (now (self .entry) .net .rows) (now (wires .entry)) (now (marks .entry))) ⌝ }
+    {
+        if marks.len() != 64 {
+            return Some(Refusal::MarkCount);
+        }
+        if wires.len() > 1_024 {
+            return Some(Refusal::WireCount);
+        }
+        if let Some(i) = bad_current(wires) {
+            return Some(Refusal::WireCurrent { wire: i as u32 });
+        }
+        if let Some(i) = bad_site(&self.ruler, wires) {
+            return Some(Refusal::WireSite { wire: i as u32 });
+        }
+        if let Some(i) = self.net.bad_mark(marks) {
+            return Some(Refusal::MarkOutOfRange { id: i as u32 + 1 });
+        }
+        if let Some(site) = self.net.unmet_site(wires) {
+            return Some(Refusal::Unmet { site });
+        }
+        if let Some(a) = self.net.bad_reach(&self.ruler, marks) {
+            return Some(Refusal::MarksApart { id: a as u32 + 1 });
+        }
+        None
+    }
+
+    // The area of a list that audit can read: 1,024 wires of 32,000,000 over 4,000,000 at the most.
+    fn readable_area(&self, wires: &[Wire]) -> u64
+        requires { ⌜ Readable (meaning (now self .ruler)) (now wires) ⌝ }
+        ensures area { λ r. ⌜ r ≡ area (meaning (now (self .entry) .ruler)) (now (wires .entry)) ⌝ }
+        ensures high { λ r. ⌜ r ≤ 131072000000000000 ⌝ }
+    {
+        match area_of(&self.ruler, wires) {
+            Some(area) => area as u64,
+            None => unreachable(),
+        }
     }
 }
