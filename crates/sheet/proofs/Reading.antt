@@ -1,8 +1,8 @@
 -- What a list that audit can read is: known sites, bounded area.
 use mathlib.Core.Path.{_≡_, refl}
-use mathlib.Core.Bool.{Bool, true, false, not}
+use mathlib.Core.Bool.{Bool, true, not}
 use mathlib.Core.List.{List, [], _∷_}
-use Prim.Native.Nat.{ℕ, _+_, _*_, _≤_, _<_}
+use Prim.Native.Nat.{ℕ, _*_, _≤_}
 use native.Mathlib.Nat.{mul-le-mul}
 use native.Mathlib.Omega.{arith}
 use lib.Dec.{leb}
@@ -10,30 +10,19 @@ use lib.ListN.{length}
 use Rattle.std.specs.shelf.Lists.{All}
 use Rattle.std.proofs.shelf.Elements.{all-from-getD}
 use Rattle.std.proofs.shelf.Tests.{and-from, and-parts, leb-true, not-false}
-use Rattle.std.specs.declared.option.Option.{Option}
-use Rattle.std.specs.declared.option.Option.the-variants.{Some, None}
+use Rattle.std.specs.declared.option.Option.the-variants.{None}
 use Rattle.ruler.specs.Meaning.{Meaning, Metric}
 use Rattle.wires.specs.declared.wire.Wire.{Wire}
 use Rattle.wires.specs.Wiring.{all-lie, area, lies}
 use Rattle.sheet.specs.declared.refusal.Refusal.{Refusal}
 use Rattle.sheet.specs.declared.refusal.Refusal.the-variants.{WireCount, WireCurrent, WireSite}
-use Rattle.sheet.specs.Audit.{carries, fault, lowest, no-wire, wire-at, wires-are-few}
+use Rattle.sheet.specs.Audit.{carries, fault, lowest, no-wire, wire-at}
 use Rattle.sheet.specs.Law.{Readable}
-use Rattle.sheet.specs.Questions.{ask}
-use Rattle.sheet.proofs.Lowest.{lowest-clear}
-
--- a question that was passed found nothing
-pub fault-none : (refusal : ℕ → Refusal) (found : Option ℕ) → fault refusal found ≡ None → found ≡ None
-fault-none refusal (Some i) e = let z : _≡_ {A = ℕ} 0 1 = cc in absurd (omega arith)
-fault-none refusal None e = refl
-
-pub ask-none : (ok : Bool) (refusal : Refusal) → ask ok refusal ≡ None → ok ≡ true
-ask-none true refusal e = refl
-ask-none false refusal e = let z : _≡_ {A = ℕ} 0 1 = cc in absurd (omega arith)
+use Rattle.sheet.proofs.Passing.{ask-passed, clear-passed}
 
 -- every wire passes a test that none fails
-pub all-pass : (test : Wire → Bool) (ws : List Wire) → lowest (λ i. not (test (wire-at ws i))) (length ws) ≡ None → All (λ w. test w ≡ true) ws
-all-pass test ws e = all-from-getD (λ w. test w ≡ true) ws no-wire (λ i h. not-false (test (wire-at ws i)) (lowest-clear (λ i. not (test (wire-at ws i))) (length ws) e i h))
+all-pass : (refusal : ℕ → Refusal) (test : Wire → Bool) (ws : List Wire) → fault refusal (lowest (λ i. not (test (wire-at ws i))) (length ws)) ≡ None → All (λ w. test w ≡ true) ws
+all-pass refusal test ws e = all-from-getD (λ w. test w ≡ true) ws no-wire (λ i h. not-false (test (wire-at ws i)) (clear-passed refusal (λ i. not (test (wire-at ws i))) (length ws) e i h))
 
 all-lie-from : (m : Meaning) (ws : List Wire) → All (λ w. lies m w ≡ true) ws → all-lie m ws ≡ true
 all-lie-from m [] all = refl
@@ -50,17 +39,17 @@ area-bound m metric (w ∷ ws) carry lie =
     omega arith
 
 module _ (m : Meaning) (ws : List Wire) (r : Readable m ws) where
-  pub readable-carries : All (λ w. carries w ≡ true) ws
-  readable-carries = all-pass carries ws (fault-none WireCurrent _ (r .carry))
+  readable-carries : All (λ w. carries w ≡ true) ws
+  readable-carries = all-pass WireCurrent carries ws (r .carry)
 
-  pub readable-lies : All (λ w. lies m w ≡ true) ws
-  readable-lies = all-pass (lies m) ws (fault-none WireSite _ (r .lie))
+  readable-lies : All (λ w. lies m w ≡ true) ws
+  readable-lies = all-pass WireSite (lies m) ws (r .lie)
 
   pub readable-known : all-lie m ws ≡ true
   readable-known = all-lie-from m ws readable-lies
 
   pub readable-bound : Metric m → area m ws ≤ 131072000000000000
   readable-bound metric =
-      let few = leb-true (length ws) 1024 (ask-none (leb (length ws) 1024) WireCount (r .few)) in
+      let few = leb-true (length ws) 1024 (ask-passed (leb (length ws) 1024) WireCount (r .few)) in
       let bound = area-bound m metric ws readable-carries readable-lies in
       omega arith

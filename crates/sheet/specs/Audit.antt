@@ -110,5 +110,8 @@ abbrev pub form-questions : Meaning → List (Option Terminal) → List Wire →
 form-questions m rows ws marks =
     marks-are-64 marks ∷ wires-are-few ws ∷ currents-carry ws ∷ sites-are-known m ws ∷ marks-fit rows marks ∷ is-met rows ws ∷ marks-reach m rows marks ∷ []
 
+abbrev pub audit-questions : Meaning → List (Option Terminal) → List Wire → List ℕ → List (Option Refusal)
+audit-questions m rows ws marks = form-questions m rows ws marks ++ (area-is-value m rows ws marks ∷ [])
+
 abbrev pub audit-asked : Meaning → List (Option Terminal) → List Wire → List ℕ → Option Refusal
-audit-asked m rows ws marks = first-no (form-questions m rows ws marks ++ (area-is-value m rows ws marks ∷ []))
+audit-asked m rows ws marks = first-no (audit-questions m rows ws marks)

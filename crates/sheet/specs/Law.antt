@@ -34,6 +34,11 @@ pub record Accepted (m : Meaning) (rows : List (Option Terminal)) (ws : List Wir
 abbrev pub Law : Meaning → List (Option Terminal) → Type 0
 Law m rows = (ws : List Wire) → Readable m ws → Least m (seated rows) ws ↔ Accepted m rows ws
 
+-- What stands after every call: the rows are upheld, and the law holds of them.
+pub record Lawful (m : Meaning) (rows : List (Option Terminal)) : Type 0 where
+  pub upheld : Upheld m rows
+  pub law : Law m rows
+
 -- The law at the opening and after each call of a run, the terminals being the ledger's.
 abbrev pub Law-of-run : Meaning → List Call → Type 0
-Law-of-run m calls = (n : ℕ) → Law m (course m empty (take n calls))
+Law-of-run m calls = (n : ℕ) → Lawful m (course m empty (take n calls))

@@ -2,4 +2,5 @@
 pub mod call;
 pub mod net;
 pub mod refusal;
+pub mod run;
 pub mod sheet;

@@ -1,5 +1,6 @@
 // A sheet keeps one net over one ruler, which it owns, so nothing changes that ruler while the sheet lasts.
 ghost use mathlib.Core.Path.{_≡_};
+ghost use Rattle.sheet.specs.Law.{Lawful};
 ghost use Rattle.sheet.specs.Ledger.{empty};
 use crate::net::Net;
 use ruler::ruler::Ruler;
@@ -17,6 +18,7 @@ impl<R: Ruler> Sheet<R> {
     pub fn open(ruler: R) -> Sheet<R>
         ensures kept { λ r. ⌜ r .ruler ≡ ruler ⌝ }
         ensures rows { λ r. ⌜ r .net .rows ≡ empty ⌝ }
+        ensures law { λ r. ⌜ Lawful (meaning ruler) (r .net .rows) ⌝ }
     {
         Sheet {
             ruler,

@@ -5,6 +5,7 @@ ghost use Prim.Native.Nat.{_≤_};
 ghost use Rattle.std.specs.declared.option.Option.the-variants.{Some};
 ghost use Rattle.std.specs.declared.result.Result.the-variants.{Ok, Err};
 ghost use Rattle.sheet.specs.Questions.{allowed, first-no, id-in-range, id-is-seated, row-of};
+ghost use Rattle.sheet.specs.Law.{Lawful, Upheld};
 ghost use Rattle.sheet.specs.Ledger.{asked, fed, outcome};
 ghost use Rattle.sheet.specs.declared.call.Call.the-variants.{Seat, Move, Alter, Lift};
 use crate::refusal::Refusal;
@@ -23,6 +24,7 @@ impl<R: Ruler> Sheet<R> {
         ensures answer { λ r. ⌜ r ≡ outcome (asked (meaning (now (self .entry) .ruler)) (now (self .entry) .net .rows) (Seat id site current)) tt ⌝ }
         ensures after { λ _. ⌜ now (self .exit) .net .rows ≡ fed (meaning (now (self .entry) .ruler)) (now (self .entry) .net .rows) (Seat id site current) ⌝ }
         ensures same { λ _. ⌜ now (self .exit) .ruler ≡ now (self .entry) .ruler ⌝ }
+        ensures law { λ _. ⌜ (Upheld (meaning (now (self .entry) .ruler)) (now (self .entry) .net .rows) → Lawful (meaning (now (self .exit) .ruler)) (now (self .exit) .net .rows)) ⌝ }
     {
         if let Some(refusal) = self.seat_question(id, site, current) {
             return Err(refusal);
@@ -35,6 +37,7 @@ impl<R: Ruler> Sheet<R> {
         ensures answer { λ r. ⌜ r ≡ outcome (asked (meaning (now (self .entry) .ruler)) (now (self .entry) .net .rows) (Move id site)) tt ⌝ }
         ensures after { λ _. ⌜ now (self .exit) .net .rows ≡ fed (meaning (now (self .entry) .ruler)) (now (self .entry) .net .rows) (Move id site) ⌝ }
         ensures same { λ _. ⌜ now (self .exit) .ruler ≡ now (self .entry) .ruler ⌝ }
+        ensures law { λ _. ⌜ (Upheld (meaning (now (self .entry) .ruler)) (now (self .entry) .net .rows) → Lawful (meaning (now (self .exit) .ruler)) (now (self .exit) .net .rows)) ⌝ }
     {
         let terminal = self.seated(id)?;
         let Some(_) = self.ruler.length(site, site) else {
@@ -49,6 +52,7 @@ impl<R: Ruler> Sheet<R> {
         ensures answer { λ r. ⌜ r ≡ outcome (asked (meaning (now (self .entry) .ruler)) (now (self .entry) .net .rows) (Alter id current)) tt ⌝ }
         ensures after { λ _. ⌜ now (self .exit) .net .rows ≡ fed (meaning (now (self .entry) .ruler)) (now (self .entry) .net .rows) (Alter id current) ⌝ }
         ensures same { λ _. ⌜ now (self .exit) .ruler ≡ now (self .entry) .ruler ⌝ }
+        ensures law { λ _. ⌜ (Upheld (meaning (now (self .entry) .ruler)) (now (self .entry) .net .rows) → Lawful (meaning (now (self .exit) .ruler)) (now (self .exit) .net .rows)) ⌝ }
     {
         let terminal = self.seated(id)?;
         if !is_allowed(current) {
@@ -63,6 +67,7 @@ impl<R: Ruler> Sheet<R> {
         ensures answer { λ r. ⌜ r ≡ outcome (asked (meaning (now (self .entry) .ruler)) (now (self .entry) .net .rows) (Lift id)) tt ⌝ }
         ensures after { λ _. ⌜ now (self .exit) .net .rows ≡ fed (meaning (now (self .entry) .ruler)) (now (self .entry) .net .rows) (Lift id) ⌝ }
         ensures same { λ _. ⌜ now (self .exit) .ruler ≡ now (self .entry) .ruler ⌝ }
+        ensures law { λ _. ⌜ (Upheld (meaning (now (self .entry) .ruler)) (now (self .entry) .net .rows) → Lawful (meaning (now (self .exit) .ruler)) (now (self .exit) .net .rows)) ⌝ }
     {
         let _ = self.seated(id)?;
         self.net.rows[id as usize - 1] = None;
