@@ -17,42 +17,37 @@ use Rattle.sheet.specs.declared.refusal.Refusal.{Refusal}
 use Rattle.sheet.specs.declared.refusal.Refusal.the-variants.{SiteUnknown}
 use Rattle.sheet.specs.Law.{Lawful, Law-of-run, Upheld}
 use Rattle.sheet.specs.Ledger.{empty, asked, moved, altered, written, unless, fed, course}
-use Rattle.sheet.specs.Questions.{row-of, id-in-range, id-is-free, id-is-seated, current-is-allowed, site-is-known}
+use Rattle.sheet.specs.Questions.{row-known, row-of, id-in-range, id-is-free, id-is-seated, current-is-allowed, site-is-known}
 use Rattle.sheet.proofs.Auditing.{law-holds}
 use Rattle.sheet.proofs.Passing.{ask-passed, chain-passed}
 
--- a row is empty, or its site is known
-abbrev Kept : Meaning → Option Terminal → Type 0
-Kept m (Some t) = m .known (t .site) ≡ true
-Kept m None = Unit {0}
-
-kept-row : (m : Meaning) (rows : List (Option Terminal)) (i : ℕ) → Seated m (seated rows) → Kept m (getD rows i None)
-kept-row m [] i known = tt
+pub kept-row : (m : Meaning) (rows : List (Option Terminal)) (i : ℕ) → Seated m (seated rows) → row-known m (getD rows i None) ≡ true
+kept-row m [] i known = refl
 kept-row m (Some t ∷ rows) zero known = known .0
 kept-row m (Some t ∷ rows) (suc i) known = kept-row m rows i (known .1)
-kept-row m (None ∷ rows) zero known = tt
+kept-row m (None ∷ rows) zero known = refl
 kept-row m (None ∷ rows) (suc i) known = kept-row m rows i known
 
-kept-moved : (m : Meaning) (row : Option Terminal) (site : ℕ) → m .known site ≡ true → Kept m (moved row site)
+kept-moved : (m : Meaning) (row : Option Terminal) (site : ℕ) → m .known site ≡ true → row-known m (moved row site) ≡ true
 kept-moved m (Some t) site known = known
-kept-moved m None site known = tt
+kept-moved m None site known = refl
 
-kept-altered : (m : Meaning) (row : Option Terminal) (current : ℤ) → Kept m row → Kept m (altered row current)
+kept-altered : (m : Meaning) (row : Option Terminal) (current : ℤ) → row-known m row ≡ true → row-known m (altered row current) ≡ true
 kept-altered m (Some t) current kept = kept
-kept-altered m None current kept = tt
+kept-altered m None current kept = refl
 
-seated-first : (m : Meaning) (row : Option Terminal) (rows : List (Option Terminal)) → Kept m row → Seated m (seated rows) → Seated m (seated (row ∷ rows))
+seated-first : (m : Meaning) (row : Option Terminal) (rows : List (Option Terminal)) → row-known m row ≡ true → Seated m (seated rows) → Seated m (seated (row ∷ rows))
 seated-first m (Some t) rows kept known = (kept, known)
 seated-first m None rows kept known = known
 
-seated-set : (m : Meaning) (rows : List (Option Terminal)) (i : ℕ) (row : Option Terminal) → Kept m row → Seated m (seated rows) → Seated m (seated (set rows i row))
+seated-set : (m : Meaning) (rows : List (Option Terminal)) (i : ℕ) (row : Option Terminal) → row-known m row ≡ true → Seated m (seated rows) → Seated m (seated (set rows i row))
 seated-set m [] i row kept known = tt
 seated-set m (Some t ∷ rows) zero row kept known = seated-first m row rows kept (known .1)
 seated-set m (Some t ∷ rows) (suc i) row kept known = (known .0, seated-set m rows i row kept (known .1))
 seated-set m (None ∷ rows) zero row kept known = seated-first m row rows kept known
 seated-set m (None ∷ rows) (suc i) row kept known = seated-set m rows i row kept known
 
-set-upheld : (m : Meaning) (rows : List (Option Terminal)) (i : ℕ) (row : Option Terminal) → Kept m row → Upheld m rows → Upheld m (set rows i row)
+pub set-upheld : (m : Meaning) (rows : List (Option Terminal)) (i : ℕ) (row : Option Terminal) → row-known m row ≡ true → Upheld m rows → Upheld m (set rows i row)
 set-upheld m rows i row kept up = record { full = length-set rows i row ∙ up .full; known = seated-set m rows i row kept (up .known) }
 
 site-from-passed : (m : Meaning) (id site : ℕ) → site-is-known m id site ≡ None → m .known site ≡ true
@@ -66,7 +61,7 @@ written-upheld m rows (Move id site) e up =
     let passed = chain-passed (id-in-range id ∷ id-is-seated rows id ∷ site-is-known m id site ∷ []) e in
     set-upheld m rows (id - 1) (moved (row-of rows id) site) (kept-moved m (row-of rows id) site (site-from-passed m id site (passed .1 .1 .0))) up
 written-upheld m rows (Alter id current) e up = set-upheld m rows (id - 1) (altered (row-of rows id) current) (kept-altered m (row-of rows id) current (kept-row m rows (id - 1) (up .known))) up
-written-upheld m rows (Lift id) e up = set-upheld m rows (id - 1) None tt up
+written-upheld m rows (Lift id) e up = set-upheld m rows (id - 1) None refl up
 written-upheld m rows (Audit wires marks) e up = up
 
 pub empty-upheld : (m : Meaning) → Upheld m empty
@@ -99,10 +94,6 @@ course-more meaning opened kept rows rows′ calls i d h same before after =
 -- upheld rows are under the law
 pub lawful : (m : Meaning) → Metric m → (rows : List (Option Terminal)) → Upheld m rows → Lawful m rows
 lawful m metric rows up = record { upheld = up; law = law-holds m metric rows up }
-
--- after a call over a ruler that stayed the same
-pub call-holds : {R : Type 0} (meaning : R → Meaning) (before after : R) → Metric (meaning before) → after ≡ before → (rows : List (Option Terminal)) (call : Call) (rows′ : List (Option Terminal)) → rows′ ≡ fed (meaning before) rows call → Upheld (meaning before) rows → Lawful (meaning after) rows′
-call-holds meaning before after metric same rows call rows′ e up = rw (same, e) (lawful (meaning before) metric (fed (meaning before) rows call) (fed-upheld (meaning before) rows call up))
 
 pub run-holds : (m : Meaning) → Metric m → (calls : List Call) → Law-of-run m calls
 run-holds m metric calls n = lawful m metric (course m empty (take n calls)) (course-upheld m empty (take n calls) (empty-upheld m))

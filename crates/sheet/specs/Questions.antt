@@ -49,5 +49,10 @@ row-allowed None = true
 abbrev pub current-is-allowed : ℕ → ℤ → Option Refusal
 current-is-allowed id current = ask (allowed current) (CurrentOutOfRange id)
 
+-- a row is empty, or its site is known
+abbrev pub row-known : Meaning → Option Terminal → Bool
+row-known m (Some t) = m .known (t .site)
+row-known m None = true
+
 abbrev pub site-is-known : Meaning → ℕ → ℕ → Option Refusal
 site-is-known m id site = ask (m .known site) (SiteUnknown id)

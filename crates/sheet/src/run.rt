@@ -1,6 +1,6 @@
 // Runs of calls on a sheet, under the law.
 ghost use mathlib.Core.Path.{_≡_};
-ghost use Rattle.sheet.specs.Law.{Law-of-run, Lawful, Upheld};
+ghost use Rattle.sheet.specs.Law.{Law-of-run, Lawful};
 ghost use Rattle.sheet.specs.Ledger.{answered, course, empty, fed};
 ghost use Rattle.sheet.specs.declared.call.Answer.the-variants.{Done, Refused};
 ghost use Rattle.std.specs.declared.result.Result.the-variants.{Ok, Err};
@@ -24,7 +24,7 @@ pub fn perform<R: Ruler>(sheet: &mut Sheet<R>, call: &Call) -> Answer
     ensures answer { λ r. ⌜ r ≡ answered (meaning (now (sheet .entry) .ruler)) (now (sheet .entry) .net .rows) (now (call .entry)) ⌝ }
     ensures after { λ _. ⌜ now (sheet .exit) .net .rows ≡ fed (meaning (now (sheet .entry) .ruler)) (now (sheet .entry) .net .rows) (now (call .entry)) ⌝ }
     ensures same { λ _. ⌜ now (sheet .exit) .ruler ≡ now (sheet .entry) .ruler ⌝ }
-    ensures law { λ _. ⌜ (Upheld (meaning (now (sheet .entry) .ruler)) (now (sheet .entry) .net .rows) → Lawful (meaning (now (sheet .exit) .ruler)) (now (sheet .exit) .net .rows)) ⌝ }
+    ensures law { λ _. ⌜ (Lawful (meaning (now (sheet .entry) .ruler)) (now (sheet .entry) .net .rows) → Lawful (meaning (now (sheet .exit) .ruler)) (now (sheet .exit) .net .rows)) ⌝ }
 {
     match *call {
         Call::Seat { id, site, current } => edit_answer(sheet.seat(id, site, current)),

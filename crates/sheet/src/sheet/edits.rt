@@ -1,10 +1,12 @@
 // The edits: each is put to its questions first, and then changes one row and no other.
 ghost use mathlib.Core.Path.{_≡_};
 ghost use mathlib.Core.List.{[], _∷_};
-ghost use Prim.Native.Nat.{_≤_};
+ghost use mathlib.Core.Bool.{true};
+ghost use Prim.Native.Nat.{_-_, _≤_};
+ghost use lib.ListN.{set};
 ghost use Rattle.std.specs.declared.option.Option.the-variants.{Some};
 ghost use Rattle.std.specs.declared.result.Result.the-variants.{Ok, Err};
-ghost use Rattle.sheet.specs.Questions.{allowed, first-no, id-in-range, id-is-seated, row-of};
+ghost use Rattle.sheet.specs.Questions.{allowed, first-no, id-in-range, id-is-seated, row-allowed, row-known, row-of};
 ghost use Rattle.sheet.specs.Law.{Lawful, Upheld};
 ghost use Rattle.sheet.specs.Ledger.{asked, fed, outcome};
 ghost use Rattle.sheet.specs.declared.call.Call.the-variants.{Seat, Move, Alter, Lift};
@@ -24,12 +26,12 @@ impl<R: Ruler> Sheet<R> {
         ensures answer { λ r. ⌜ r ≡ outcome (asked (meaning (now (self .entry) .ruler)) (now (self .entry) .net .rows) (Seat id site current)) tt ⌝ }
         ensures after { λ _. ⌜ now (self .exit) .net .rows ≡ fed (meaning (now (self .entry) .ruler)) (now (self .entry) .net .rows) (Seat id site current) ⌝ }
         ensures same { λ _. ⌜ now (self .exit) .ruler ≡ now (self .entry) .ruler ⌝ }
-        ensures law { λ _. ⌜ (Upheld (meaning (now (self .entry) .ruler)) (now (self .entry) .net .rows) → Lawful (meaning (now (self .exit) .ruler)) (now (self .exit) .net .rows)) ⌝ }
+        ensures law { λ _. ⌜ (Lawful (meaning (now (self .entry) .ruler)) (now (self .entry) .net .rows) → Lawful (meaning (now (self .exit) .ruler)) (now (self .exit) .net .rows)) ⌝ }
     {
         if let Some(refusal) = self.seat_question(id, site, current) {
             return Err(refusal);
         }
-        self.net.rows[id as usize - 1] = Some(Terminal { site, current });
+        self.enter(id, Some(Terminal { site, current }));
         Ok(())
     }
 
@@ -37,14 +39,13 @@ impl<R: Ruler> Sheet<R> {
         ensures answer { λ r. ⌜ r ≡ outcome (asked (meaning (now (self .entry) .ruler)) (now (self .entry) .net .rows) (Move id site)) tt ⌝ }
         ensures after { λ _. ⌜ now (self .exit) .net .rows ≡ fed (meaning (now (self .entry) .ruler)) (now (self .entry) .net .rows) (Move id site) ⌝ }
         ensures same { λ _. ⌜ now (self .exit) .ruler ≡ now (self .entry) .ruler ⌝ }
-        ensures law { λ _. ⌜ (Upheld (meaning (now (self .entry) .ruler)) (now (self .entry) .net .rows) → Lawful (meaning (now (self .exit) .ruler)) (now (self .exit) .net .rows)) ⌝ }
+        ensures law { λ _. ⌜ (Lawful (meaning (now (self .entry) .ruler)) (now (self .entry) .net .rows) → Lawful (meaning (now (self .exit) .ruler)) (now (self .exit) .net .rows)) ⌝ }
     {
         let terminal = self.seated(id)?;
         let Some(_) = self.ruler.length(site, site) else {
             return Err(Refusal::SiteUnknown { id });
         };
-        let current = terminal.current;
-        self.net.rows[id as usize - 1] = Some(Terminal { site, current });
+        self.enter(id, Some(Terminal { site, ..terminal }));
         Ok(())
     }
 
@@ -52,14 +53,19 @@ impl<R: Ruler> Sheet<R> {
         ensures answer { λ r. ⌜ r ≡ outcome (asked (meaning (now (self .entry) .ruler)) (now (self .entry) .net .rows) (Alter id current)) tt ⌝ }
         ensures after { λ _. ⌜ now (self .exit) .net .rows ≡ fed (meaning (now (self .entry) .ruler)) (now (self .entry) .net .rows) (Alter id current) ⌝ }
         ensures same { λ _. ⌜ now (self .exit) .ruler ≡ now (self .entry) .ruler ⌝ }
-        ensures law { λ _. ⌜ (Upheld (meaning (now (self .entry) .ruler)) (now (self .entry) .net .rows) → Lawful (meaning (now (self .exit) .ruler)) (now (self .exit) .net .rows)) ⌝ }
+        ensures law { λ _. ⌜ (Lawful (meaning (now (self .entry) .ruler)) (now (self .entry) .net .rows) → Lawful (meaning (now (self .exit) .ruler)) (now (self .exit) .net .rows)) ⌝ }
     {
         let terminal = self.seated(id)?;
         if !is_allowed(current) {
             return Err(Refusal::CurrentOutOfRange { id });
         }
-        let site = terminal.site;
-        self.net.rows[id as usize - 1] = Some(Terminal { site, current });
+        self.enter(
+            id,
+            Some(Terminal {
+                current,
+                ..terminal
+            }),
+        );
         Ok(())
     }
 
@@ -67,11 +73,21 @@ impl<R: Ruler> Sheet<R> {
         ensures answer { λ r. ⌜ r ≡ outcome (asked (meaning (now (self .entry) .ruler)) (now (self .entry) .net .rows) (Lift id)) tt ⌝ }
         ensures after { λ _. ⌜ now (self .exit) .net .rows ≡ fed (meaning (now (self .entry) .ruler)) (now (self .entry) .net .rows) (Lift id) ⌝ }
         ensures same { λ _. ⌜ now (self .exit) .ruler ≡ now (self .entry) .ruler ⌝ }
-        ensures law { λ _. ⌜ (Upheld (meaning (now (self .entry) .ruler)) (now (self .entry) .net .rows) → Lawful (meaning (now (self .exit) .ruler)) (now (self .exit) .net .rows)) ⌝ }
+        ensures law { λ _. ⌜ (Lawful (meaning (now (self .entry) .ruler)) (now (self .entry) .net .rows) → Lawful (meaning (now (self .exit) .ruler)) (now (self .exit) .net .rows)) ⌝ }
     {
         let _ = self.seated(id)?;
-        self.net.rows[id as usize - 1] = None;
+        self.enter(id, None);
         Ok(())
+    }
+
+    // Changes one row and no other.
+    fn enter(&mut self, id: u32, row: Option<Terminal>)
+        requires { ⌜ 1 ≤ id ⌝ ∗ ⌜ id ≤ 64 ⌝ ∗ ⌜ row-allowed row ≡ true ⌝ }
+        ensures after { λ _. ⌜ now (self .exit) .net .rows ≡ set (now (self .entry) .net .rows) (id - 1) row ⌝ }
+        ensures same { λ _. ⌜ now (self .exit) .ruler ≡ now (self .entry) .ruler ⌝ }
+        ensures law { λ _. ⌜ (row-known (meaning (now (self .entry) .ruler)) row ≡ true → Upheld (meaning (now (self .entry) .ruler)) (now (self .entry) .net .rows) → Lawful (meaning (now (self .exit) .ruler)) (now (self .exit) .net .rows)) ⌝ }
+    {
+        self.net.rows[id as usize - 1] = row;
     }
 
     fn seat_question(&self, id: u32, site: u32, current: i32) -> Option<Refusal>
@@ -92,10 +108,10 @@ impl<R: Ruler> Sheet<R> {
         };
         None
     }
-
     // The terminal of an id, or the first no of the two questions that ask for one.
     fn seated(&self, id: u32) -> Result<Terminal, Refusal>
-        ensures { λ r. ⌜ elim r [ Ok t ↦ (1 ≤ id) × (id ≤ 64) × (row-of (now (self .entry) .net .rows) id ≡ Some t) | Err e ↦ Some e ≡ first-no (id-in-range id ∷ id-is-seated (now (self .entry) .net .rows) id ∷ []) ] ⌝ }
+        ensures found { λ r. ⌜ elim r [ Ok t ↦ (1 ≤ id) × (id ≤ 64) × (row-of (now (self .entry) .net .rows) id ≡ Some t) | Err e ↦ Some e ≡ first-no (id-in-range id ∷ id-is-seated (now (self .entry) .net .rows) id ∷ []) ] ⌝ }
+        ensures known { λ r. ⌜ elim r [ Ok t ↦ (Upheld (meaning (now (self .entry) .ruler)) (now (self .entry) .net .rows) → meaning (now (self .entry) .ruler) .known (t .site) ≡ true) | Err e ↦ Unit {0} ] ⌝ }
     {
         if id < 1 || id > 64 {
             return Err(Refusal::IdOutOfRange { id });

@@ -1,13 +1,9 @@
 use mathlib.Core.Path.{ap, _∙_}
-use borrow.Author.Needs.{needs}
 use lib.ListN.{take}
 use Rattle.std.proofs.shelf.Lists.{take-all}
 use Rattle.sheet.specs.Ledger.{course, empty}
 use Rattle.sheet.proofs.Upholding.{course-more, run-holds}
 use Rattle.sheet.proofs.run.follow.Needs as need
-
-pub loop-i-holds : need.loop-i-holds
-loop-i-holds g c = search needs
 
 pub loop-i-again : need.loop-i-again
 loop-i-again g c =

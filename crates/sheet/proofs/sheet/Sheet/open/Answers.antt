@@ -1,14 +1,7 @@
-use mathlib.Core.Path.{refl, ap}
-use Rattle.sheet.specs.Ledger.{empty}
-use Rattle.sheet.specs.Questions.{row-allowed}
-use Rattle.sheet.proofs.Rows.{row-of-empty}
-use Rattle.sheet.proofs.Upholding.{empty-upheld, lawful}
+use mathlib.Core.Path.{refl}
 use Rattle.sheet.proofs.sheet.Sheet.open.Needs as need
-
-pub ghost-result : need.ghost-result
-ghost-result g c = (refl, ((λ k. ap row-allowed (row-of-empty 64 k)), tt))
 
 pub returns : need.returns
 returns g c =
-    let m = g .R·Ruler .meaning (c .args .ruler) in
-    record { kept = refl; rows = refl; law = lawful m (g .R·Ruler·met .metric (c .args .ruler)) empty (empty-upheld m) }
+    let net = c .empty-net .ensures in
+    record { kept = refl; rows = net .rows; law = net .law (g .R·Ruler .meaning (c .args .ruler)) (g .R·Ruler·met .metric (c .args .ruler)) }
