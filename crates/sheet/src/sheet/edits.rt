@@ -41,11 +41,11 @@ impl<R: Ruler> Sheet<R> {
         ensures same { λ _. ⌜ now (self .exit) .ruler ≡ now (self .entry) .ruler ⌝ }
         ensures law { λ _. ⌜ (Lawful (meaning (now (self .entry) .ruler)) (now (self .entry) .net .rows) → Lawful (meaning (now (self .exit) .ruler)) (now (self .exit) .net .rows)) ⌝ }
     {
-        let terminal = self.seated(id)?;
+        let pin = self.seated(id)?;
         let Some(_) = self.ruler.length(site, site) else {
             return Err(Refusal::SiteUnknown { id });
         };
-        self.enter(id, Some(Terminal { site, ..terminal }));
+        self.enter(id, Some(Terminal { site, ..pin }));
         Ok(())
     }
 
@@ -55,17 +55,11 @@ impl<R: Ruler> Sheet<R> {
         ensures same { λ _. ⌜ now (self .exit) .ruler ≡ now (self .entry) .ruler ⌝ }
         ensures law { λ _. ⌜ (Lawful (meaning (now (self .entry) .ruler)) (now (self .entry) .net .rows) → Lawful (meaning (now (self .exit) .ruler)) (now (self .exit) .net .rows)) ⌝ }
     {
-        let terminal = self.seated(id)?;
+        let pin = self.seated(id)?;
         if !is_allowed(current) {
             return Err(Refusal::CurrentOutOfRange { id });
         }
-        self.enter(
-            id,
-            Some(Terminal {
-                current,
-                ..terminal
-            }),
-        );
+        self.enter(id, Some(Terminal { current, ..pin }));
         Ok(())
     }
 

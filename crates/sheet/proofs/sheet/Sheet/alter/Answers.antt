@@ -5,8 +5,8 @@ use Rattle.sheet.specs.Questions.{id-in-range, id-is-seated, current-is-allowe
 use Rattle.sheet.proofs.Chains.{first-no-stays}
 use Rattle.sheet.proofs.sheet.Sheet.alter.Needs as need
 
-pub returns-in-Break-terminal : need.returns-in-Break-terminal
-returns-in-Break-terminal g c =
+pub returns-in-Break-pin : need.returns-in-Break-pin
+returns-in-Break-pin g c =
     let id = c .args .id in
-    let stays = first-no-stays (id-in-range id ∷ id-is-seated (now (c .args .self) .net .rows) id ∷ []) (current-is-allowed id (c .args .current) ∷ []) _ (c .in-Break-terminal .ensures tt .found) in
+    let stays = first-no-stays (id-in-range id ∷ id-is-seated (now (c .args .self) .net .rows) id ∷ []) (current-is-allowed id (c .args .current) ∷ []) _ (c .in-Break-pin .ensures tt .found) in
     search needs
