@@ -5,8 +5,8 @@ use Prim.Native.Nat.{ℕ}
 use native.Mathlib.Omega.{arith}
 use Rattle.std.specs.declared.option.Option.{Option}
 use Rattle.std.specs.declared.option.Option.the-variants.{Some, None}
-use Rattle.sheet.specs.declared.refusal.Refusal.{Refusal}
-use Rattle.sheet.specs.Questions.{first-no}
+use Rattle.audit.specs.declared.refusal.Refusal.{Refusal}
+use Rattle.audit.specs.Questions.{first-no}
 
 -- a no of the first questions is the no of all
 pub first-no-stays : (ps qs : List (Option Refusal)) (r : Refusal) → Some r ≡ first-no ps → first-no (ps ++ qs) ≡ Some r

@@ -1,11 +1,3 @@
-pub mod Auditing
 pub mod Chains
-pub mod Lowest
-pub mod Meeting
-pub mod Passing
-pub mod Pins
-pub mod Reading
 pub mod Rows
-pub mod Touched
 pub mod Upholding
-pub mod Worth

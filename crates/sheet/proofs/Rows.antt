@@ -7,7 +7,7 @@ use lib.ListN.{getD, set, replicate}
 use Rattle.std.specs.declared.option.Option.{Option}
 use Rattle.std.specs.declared.option.Option.the-variants.{None}
 use Rattle.wires.specs.declared.terminal.Terminal.{Terminal}
-use Rattle.sheet.specs.Questions.{row-allowed}
+use Rattle.audit.specs.Questions.{row-allowed}
 
 -- every row of an empty table is empty
 pub row-of-empty : (n k : ℕ) → getD {A = Option Terminal} (replicate n None) k None ≡ None

@@ -13,13 +13,14 @@ use Rattle.wires.specs.declared.terminal.Terminal.{Terminal}
 use Rattle.wires.specs.Wiring.{Seated, seated}
 use Rattle.sheet.specs.declared.call.Call.{Call}
 use Rattle.sheet.specs.declared.call.Call.the-variants.{Seat, Move, Alter, Lift, Audit}
-use Rattle.sheet.specs.declared.refusal.Refusal.{Refusal}
-use Rattle.sheet.specs.declared.refusal.Refusal.the-variants.{SiteUnknown}
-use Rattle.sheet.specs.Law.{Lawful, Law-of-run, Upheld}
+use Rattle.audit.specs.declared.refusal.Refusal.{Refusal}
+use Rattle.audit.specs.declared.refusal.Refusal.the-variants.{SiteUnknown}
+use Rattle.audit.specs.Law.{Upheld}
+use Rattle.sheet.specs.Law.{Lawful, Law-of-run}
 use Rattle.sheet.specs.Ledger.{empty, asked, moved, altered, written, unless, fed, course}
 use Rattle.sheet.specs.Questions.{row-known, row-of, id-in-range, id-is-free, id-is-seated, current-is-allowed, site-is-known}
-use Rattle.sheet.proofs.Auditing.{law-holds}
-use Rattle.sheet.proofs.Passing.{ask-passed, chain-passed}
+use Rattle.audit.proofs.Auditing.{law-holds}
+use Rattle.audit.proofs.Passing.{ask-passed, chain-passed}
 
 pub kept-row : (m : Meaning) (rows : List (Option Terminal)) (i : ℕ) → Seated m (seated rows) → row-known m (getD rows i None) ≡ true
 kept-row m [] i known = refl

@@ -6,8 +6,6 @@ use lib.IntN.{ℤ}
 use lib.ListN.{set, replicate}
 use Rattle.std.specs.declared.option.Option.{Option}
 use Rattle.std.specs.declared.option.Option.the-variants.{Some, None}
-use Rattle.std.specs.declared.result.Result.{Result}
-use Rattle.std.specs.declared.result.Result.the-variants.{Ok, Err}
 use Rattle.ruler.specs.Meaning.{Meaning}
 use Rattle.wires.specs.declared.terminal.Terminal.{Terminal}
 use Rattle.wires.specs.Wiring.{area}
@@ -15,9 +13,10 @@ use Rattle.sheet.specs.declared.call.Call.{Call}
 use Rattle.sheet.specs.declared.call.Call.the-variants.{Seat, Move, Alter, Lift, Audit}
 use Rattle.sheet.specs.declared.call.Answer.{Answer}
 use Rattle.sheet.specs.declared.call.Answer.the-variants.{Done, Area, Refused}
-use Rattle.sheet.specs.declared.refusal.Refusal.{Refusal}
-use Rattle.sheet.specs.Audit.{audit-asked}
-use Rattle.sheet.specs.Questions.{first-no, id-in-range, id-is-free, id-is-seated, current-is-allowed, site-is-known, row-of}
+use Rattle.audit.specs.declared.refusal.Refusal.{Refusal}
+use Rattle.audit.specs.Audit.{audit-asked}
+use Rattle.audit.specs.Questions.{first-no}
+use Rattle.sheet.specs.Questions.{id-in-range, id-is-free, id-is-seated, current-is-allowed, site-is-known, row-of}
 
 -- a row for each id from 1 to 64; at first every row is empty
 abbrev pub empty : List (Option Terminal)
@@ -77,8 +76,3 @@ refused-or None answer = answer
 
 abbrev pub answered : Meaning → List (Option Terminal) → Call → Answer
 answered m rows call = refused-or (asked m rows call) (granted m call)
-
--- the same as a result: of an edit, and of an audit
-abbrev pub outcome : {A : Type 0} → Option Refusal → A → Result A Refusal
-outcome (Some r) answer = Err r
-outcome None answer = Ok answer

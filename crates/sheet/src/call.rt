@@ -1,7 +1,7 @@
 // The calls on a sheet as values, and what each of them answers.
-use crate::refusal::Refusal;
-use crate::refusal::RefusalDebug;
-use crate::refusal::RefusalPartialEq;
+use audit::refusal::Refusal;
+use audit::refusal::RefusalDebug;
+use audit::refusal::RefusalPartialEq;
 use wires::wire::Wire;
 
 #[derive(Clone, Copy)]

@@ -6,8 +6,8 @@ ghost use Rattle.sheet.specs.declared.call.Answer.the-variants.{Done, Refused}
 ghost use Rattle.std.specs.declared.result.Result.the-variants.{Ok, Err};
 use crate::call::Answer;
 use crate::call::Call;
-use crate::refusal::Refusal;
 use crate::sheet::Sheet;
+use audit::refusal::Refusal;
 use ruler::ruler::Ruler;
 
 fn edit_answer(result: Result<(), Refusal>) -> Answer
@@ -21,10 +21,10 @@ fn edit_answer(result: Result<(), Refusal>) -> Answer
 
 // Makes one call.
 pub fn perform<R: Ruler>(sheet: &mut Sheet<R>, call: &Call) -> Answer
-    ensures answer { λ r. ⌜ r ≡ answered (meaning (now (sheet .entry) .ruler)) (now (sheet .entry) .net .rows) (now (call .entry)) ⌝ }
-    ensures after { λ _. ⌜ now (sheet .exit) .net .rows ≡ fed (meaning (now (sheet .entry) .ruler)) (now (sheet .entry) .net .rows) (now (call .entry)) ⌝ }
+    ensures answer { λ r. ⌜ r ≡ answered (meaning (now (sheet .entry) .ruler)) (now (sheet .entry) .table .rows) (now (call .entry)) ⌝ }
+    ensures after { λ _. ⌜ now (sheet .exit) .table .rows ≡ fed (meaning (now (sheet .entry) .ruler)) (now (sheet .entry) .table .rows) (now (call .entry)) ⌝ }
     ensures same { λ _. ⌜ now (sheet .exit) .ruler ≡ now (sheet .entry) .ruler ⌝ }
-    ensures law { λ _. ⌜ (Lawful (meaning (now (sheet .entry) .ruler)) (now (sheet .entry) .net .rows) → Lawful (meaning (now (sheet .exit) .ruler)) (now (sheet .exit) .net .rows)) ⌝ }
+    ensures law { λ _. ⌜ (Lawful (meaning (now (sheet .entry) .ruler)) (now (sheet .entry) .table .rows) → Lawful (meaning (now (sheet .exit) .ruler)) (now (sheet .exit) .table .rows)) ⌝ }
 {
     match *call {
         Call::Seat { id, site, current } => edit_answer(sheet.seat(id, site, current)),
@@ -41,7 +41,7 @@ pub fn perform<R: Ruler>(sheet: &mut Sheet<R>, call: &Call) -> Answer
 // The sheet over a ruler after a run of calls.
 pub fn follow<R: Ruler>(ruler: R, calls: &[Call]) -> Sheet<R>
     ensures kept { λ r. ⌜ r .ruler ≡ ruler ⌝ }
-    ensures rows { λ r. ⌜ r .net .rows ≡ course (meaning ruler) empty (now (calls .entry)) ⌝ }
+    ensures rows { λ r. ⌜ r .table .rows ≡ course (meaning ruler) empty (now (calls .entry)) ⌝ }
     ensures law { λ _. ⌜ Law-of-run (meaning ruler) (now (calls .entry)) ⌝ }
 {
     let mut sheet = Sheet::open(ruler);

@@ -1,5 +1,5 @@
 // What calls on a sheet come to as numbers: a refusal's number and place, or 0 and the area.
-use sheet::refusal::Refusal;
+use audit::refusal::Refusal;
 use wires::wire::Wire;
 
 mod audits;

@@ -4,14 +4,16 @@ ghost use mathlib.Core.List.{[], _∷_};
 ghost use mathlib.Core.Bool.{true};
 ghost use Prim.Native.Nat.{_-_, _≤_};
 ghost use lib.ListN.{set};
-ghost use Rattle.std.specs.declared.option.Option.the-variants.{Some};
+ghost use Rattle.std.specs.declared.option.Option.the-variants.{None, Some};
 ghost use Rattle.std.specs.declared.result.Result.the-variants.{Ok, Err};
-ghost use Rattle.sheet.specs.Questions.{allowed, first-no, id-in-range, id-is-seated, row-allowed, row-known, row-of};
-ghost use Rattle.sheet.specs.Law.{Lawful, Upheld};
-ghost use Rattle.sheet.specs.Ledger.{asked, fed, outcome};
+ghost use Rattle.audit.specs.Law.{Upheld};
+ghost use Rattle.audit.specs.Questions.{allowed, first-no, outcome, row-allowed};
+ghost use Rattle.sheet.specs.Questions.{id-in-range, id-is-seated, row-known, row-of, site-is-known};
+ghost use Rattle.sheet.specs.Law.{Lawful};
+ghost use Rattle.sheet.specs.Ledger.{asked, fed};
 ghost use Rattle.sheet.specs.declared.call.Call.the-variants.{Seat, Move, Alter, Lift};
-use crate::refusal::Refusal;
 use crate::sheet::Sheet;
+use audit::refusal::Refusal;
 use ruler::ruler::Ruler;
 use wires::terminal::Terminal;
 
@@ -23,10 +25,10 @@ fn is_allowed(current: i32) -> bool
 
 impl<R: Ruler> Sheet<R> {
     pub fn seat(&mut self, id: u32, site: u32, current: i32) -> Result<(), Refusal>
-        ensures answer { λ r. ⌜ r ≡ outcome (asked (meaning (now (self .entry) .ruler)) (now (self .entry) .net .rows) (Seat id site current)) tt ⌝ }
-        ensures after { λ _. ⌜ now (self .exit) .net .rows ≡ fed (meaning (now (self .entry) .ruler)) (now (self .entry) .net .rows) (Seat id site current) ⌝ }
+        ensures answer { λ r. ⌜ r ≡ outcome (asked (meaning (now (self .entry) .ruler)) (now (self .entry) .table .rows) (Seat id site current)) tt ⌝ }
+        ensures after { λ _. ⌜ now (self .exit) .table .rows ≡ fed (meaning (now (self .entry) .ruler)) (now (self .entry) .table .rows) (Seat id site current) ⌝ }
         ensures same { λ _. ⌜ now (self .exit) .ruler ≡ now (self .entry) .ruler ⌝ }
-        ensures law { λ _. ⌜ (Lawful (meaning (now (self .entry) .ruler)) (now (self .entry) .net .rows) → Lawful (meaning (now (self .exit) .ruler)) (now (self .exit) .net .rows)) ⌝ }
+        ensures law { λ _. ⌜ (Lawful (meaning (now (self .entry) .ruler)) (now (self .entry) .table .rows) → Lawful (meaning (now (self .exit) .ruler)) (now (self .exit) .table .rows)) ⌝ }
     {
         if let Some(refusal) = self.seat_question(id, site, current) {
             return Err(refusal);
@@ -36,24 +38,24 @@ impl<R: Ruler> Sheet<R> {
     }
 
     pub fn move_to(&mut self, id: u32, site: u32) -> Result<(), Refusal>
-        ensures answer { λ r. ⌜ r ≡ outcome (asked (meaning (now (self .entry) .ruler)) (now (self .entry) .net .rows) (Move id site)) tt ⌝ }
-        ensures after { λ _. ⌜ now (self .exit) .net .rows ≡ fed (meaning (now (self .entry) .ruler)) (now (self .entry) .net .rows) (Move id site) ⌝ }
+        ensures answer { λ r. ⌜ r ≡ outcome (asked (meaning (now (self .entry) .ruler)) (now (self .entry) .table .rows) (Move id site)) tt ⌝ }
+        ensures after { λ _. ⌜ now (self .exit) .table .rows ≡ fed (meaning (now (self .entry) .ruler)) (now (self .entry) .table .rows) (Move id site) ⌝ }
         ensures same { λ _. ⌜ now (self .exit) .ruler ≡ now (self .entry) .ruler ⌝ }
-        ensures law { λ _. ⌜ (Lawful (meaning (now (self .entry) .ruler)) (now (self .entry) .net .rows) → Lawful (meaning (now (self .exit) .ruler)) (now (self .exit) .net .rows)) ⌝ }
+        ensures law { λ _. ⌜ (Lawful (meaning (now (self .entry) .ruler)) (now (self .entry) .table .rows) → Lawful (meaning (now (self .exit) .ruler)) (now (self .exit) .table .rows)) ⌝ }
     {
         let pin = self.seated(id)?;
-        let Some(_) = self.ruler.length(site, site) else {
-            return Err(Refusal::SiteUnknown { id });
-        };
+        if let Some(refusal) = self.site_question(id, site) {
+            return Err(refusal);
+        }
         self.enter(id, Some(Terminal { site, ..pin }));
         Ok(())
     }
 
     pub fn alter(&mut self, id: u32, current: i32) -> Result<(), Refusal>
-        ensures answer { λ r. ⌜ r ≡ outcome (asked (meaning (now (self .entry) .ruler)) (now (self .entry) .net .rows) (Alter id current)) tt ⌝ }
-        ensures after { λ _. ⌜ now (self .exit) .net .rows ≡ fed (meaning (now (self .entry) .ruler)) (now (self .entry) .net .rows) (Alter id current) ⌝ }
+        ensures answer { λ r. ⌜ r ≡ outcome (asked (meaning (now (self .entry) .ruler)) (now (self .entry) .table .rows) (Alter id current)) tt ⌝ }
+        ensures after { λ _. ⌜ now (self .exit) .table .rows ≡ fed (meaning (now (self .entry) .ruler)) (now (self .entry) .table .rows) (Alter id current) ⌝ }
         ensures same { λ _. ⌜ now (self .exit) .ruler ≡ now (self .entry) .ruler ⌝ }
-        ensures law { λ _. ⌜ (Lawful (meaning (now (self .entry) .ruler)) (now (self .entry) .net .rows) → Lawful (meaning (now (self .exit) .ruler)) (now (self .exit) .net .rows)) ⌝ }
+        ensures law { λ _. ⌜ (Lawful (meaning (now (self .entry) .ruler)) (now (self .entry) .table .rows) → Lawful (meaning (now (self .exit) .ruler)) (now (self .exit) .table .rows)) ⌝ }
     {
         let pin = self.seated(id)?;
         if !is_allowed(current) {
@@ -64,10 +66,10 @@ impl<R: Ruler> Sheet<R> {
     }
 
     pub fn lift(&mut self, id: u32) -> Result<(), Refusal>
-        ensures answer { λ r. ⌜ r ≡ outcome (asked (meaning (now (self .entry) .ruler)) (now (self .entry) .net .rows) (Lift id)) tt ⌝ }
-        ensures after { λ _. ⌜ now (self .exit) .net .rows ≡ fed (meaning (now (self .entry) .ruler)) (now (self .entry) .net .rows) (Lift id) ⌝ }
+        ensures answer { λ r. ⌜ r ≡ outcome (asked (meaning (now (self .entry) .ruler)) (now (self .entry) .table .rows) (Lift id)) tt ⌝ }
+        ensures after { λ _. ⌜ now (self .exit) .table .rows ≡ fed (meaning (now (self .entry) .ruler)) (now (self .entry) .table .rows) (Lift id) ⌝ }
         ensures same { λ _. ⌜ now (self .exit) .ruler ≡ now (self .entry) .ruler ⌝ }
-        ensures law { λ _. ⌜ (Lawful (meaning (now (self .entry) .ruler)) (now (self .entry) .net .rows) → Lawful (meaning (now (self .exit) .ruler)) (now (self .exit) .net .rows)) ⌝ }
+        ensures law { λ _. ⌜ (Lawful (meaning (now (self .entry) .ruler)) (now (self .entry) .table .rows) → Lawful (meaning (now (self .exit) .ruler)) (now (self .exit) .table .rows)) ⌝ }
     {
         let _ = self.seated(id)?;
         self.enter(id, None);
@@ -77,40 +79,50 @@ impl<R: Ruler> Sheet<R> {
     // Changes one row and no other.
     fn enter(&mut self, id: u32, row: Option<Terminal>)
         requires { ⌜ 1 ≤ id ⌝ ∗ ⌜ id ≤ 64 ⌝ ∗ ⌜ row-allowed row ≡ true ⌝ }
-        ensures after { λ _. ⌜ now (self .exit) .net .rows ≡ set (now (self .entry) .net .rows) (id - 1) row ⌝ }
+        ensures after { λ _. ⌜ now (self .exit) .table .rows ≡ set (now (self .entry) .table .rows) (id - 1) row ⌝ }
         ensures same { λ _. ⌜ now (self .exit) .ruler ≡ now (self .entry) .ruler ⌝ }
-        ensures law { λ _. ⌜ (row-known (meaning (now (self .entry) .ruler)) row ≡ true → Upheld (meaning (now (self .entry) .ruler)) (now (self .entry) .net .rows) → Lawful (meaning (now (self .exit) .ruler)) (now (self .exit) .net .rows)) ⌝ }
+        ensures law { λ _. ⌜ (row-known (meaning (now (self .entry) .ruler)) row ≡ true → Upheld (meaning (now (self .entry) .ruler)) (now (self .entry) .table .rows) → Lawful (meaning (now (self .exit) .ruler)) (now (self .exit) .table .rows)) ⌝ }
     {
-        self.net.rows[id as usize - 1] = row;
+        self.table.rows[id as usize - 1] = row;
     }
 
+    // The first no of the questions that seat is put to.
     fn seat_question(&self, id: u32, site: u32, current: i32) -> Option<Refusal>
-        ensures { λ r. ⌜ r ≡ asked (meaning (now (self .entry) .ruler)) (now (self .entry) .net .rows) (Seat id site current) ⌝ }
+        ensures asked { λ r. ⌜ r ≡ asked (meaning (now (self .entry) .ruler)) (now (self .entry) .table .rows) (Seat id site current) ⌝ }
+        ensures known { λ r. ⌜ (r ≡ None → meaning (now (self .entry) .ruler) .known site ≡ true) ⌝ }
     {
         if id < 1 || id > 64 {
             return Some(Refusal::IdOutOfRange { id });
         }
-        let row = self.net.rows[id as usize - 1];
+        let row = self.table.rows[id as usize - 1];
         if row.is_some() {
             return Some(Refusal::IdTaken { id });
         }
         if !is_allowed(current) {
             return Some(Refusal::CurrentOutOfRange { id });
         }
+        self.site_question(id, site)
+    }
+
+    fn site_question(&self, id: u32, site: u32) -> Option<Refusal>
+        ensures asked { λ r. ⌜ r ≡ site-is-known (meaning (now (self .entry) .ruler)) id site ⌝ }
+        ensures known { λ r. ⌜ (r ≡ None → meaning (now (self .entry) .ruler) .known site ≡ true) ⌝ }
+    {
         let Some(_) = self.ruler.length(site, site) else {
             return Some(Refusal::SiteUnknown { id });
         };
         None
     }
+
     // The terminal of an id, or the first no of the two questions that ask for one.
     fn seated(&self, id: u32) -> Result<Terminal, Refusal>
-        ensures found { λ r. ⌜ elim r [ Ok t ↦ (1 ≤ id) × (id ≤ 64) × (row-of (now (self .entry) .net .rows) id ≡ Some t) | Err e ↦ Some e ≡ first-no (id-in-range id ∷ id-is-seated (now (self .entry) .net .rows) id ∷ []) ] ⌝ }
-        ensures known { λ r. ⌜ elim r [ Ok t ↦ (Upheld (meaning (now (self .entry) .ruler)) (now (self .entry) .net .rows) → meaning (now (self .entry) .ruler) .known (t .site) ≡ true) | Err e ↦ Unit {0} ] ⌝ }
+        ensures found { λ r. ⌜ elim r [ Ok t ↦ (1 ≤ id) × (id ≤ 64) × (row-of (now (self .entry) .table .rows) id ≡ Some t) | Err e ↦ Some e ≡ first-no (id-in-range id ∷ id-is-seated (now (self .entry) .table .rows) id ∷ []) ] ⌝ }
+        ensures known { λ r. ⌜ elim r [ Ok t ↦ (Upheld (meaning (now (self .entry) .ruler)) (now (self .entry) .table .rows) → meaning (now (self .entry) .ruler) .known (t .site) ≡ true) | Err e ↦ Unit {0} ] ⌝ }
     {
         if id < 1 || id > 64 {
             return Err(Refusal::IdOutOfRange { id });
         }
-        let row = self.net.rows[id as usize - 1];
+        let row = self.table.rows[id as usize - 1];
         let Some(terminal) = row else {
             return Err(Refusal::IdFree { id });
         };

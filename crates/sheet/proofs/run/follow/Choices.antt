@@ -5,4 +5,4 @@ use Rattle.sheet.specs.Ledger.{course, empty}
 use Rattle.sheet.proofs.run.follow.Given as given
 
 abbrev pub Inv-loop-i : given.InvT-loop-i
-Inv-loop-i g l = (l .sheet .ruler ≡ l .entry .sheet .ruler) × (l .sheet .net .rows ≡ course (g .R·Ruler .meaning (l .entry .sheet .ruler)) empty (take (l .i) (l .calls)))
+Inv-loop-i g l = (l .sheet .ruler ≡ l .entry .sheet .ruler) × (l .sheet .table .rows ≡ course (g .R·Ruler .meaning (l .entry .sheet .ruler)) empty (take (l .i) (l .calls)))

@@ -7,7 +7,7 @@ use Rattle.sheet.proofs.sheet.Sheet.enter.Needs as need
 
 pub ghost-self : need.ghost-self
 ghost-self g c =
-    let net = c .args .self .now .net in
+    let net = c .args .self .now .table in
     let i = c .args .id - 1 in
     (length-set (net .rows) i (c .args .row) ∙ net .full, (set-allowed (net .rows) i (c .args .row) (c .pre .1 .1) (net .ranged), tt))
 
@@ -16,4 +16,4 @@ returns g c =
     let sheet = c .args .self .now in
     let m = g .R·Ruler .meaning (sheet .ruler) in
     let i = c .args .id - 1 in
-    record { after = refl; same = refl; law = λ known up. lawful m (g .R·Ruler·met .metric (sheet .ruler)) (set (sheet .net .rows) i (c .args .row)) (set-upheld m (sheet .net .rows) i (c .args .row) known up) }
+    record { after = refl; same = refl; law = λ known up. lawful m (g .R·Ruler·met .metric (sheet .ruler)) (set (sheet .table .rows) i (c .args .row)) (set-upheld m (sheet .table .rows) i (c .args .row) known up) }

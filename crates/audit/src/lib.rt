@@ -1,0 +1,3 @@
+// The terminals of a net by id, and the audit of filed plans against them.
+pub mod refusal;
+pub mod table;

@@ -1,7 +1,0 @@
-use Rattle.sheet.specs.Audit.{too-far, row-at, mark-at}
-use Rattle.sheet.proofs.Lowest.{Clear}
-use Rattle.sheet.proofs.net.Net.is_strained.Given as given
-
-abbrev pub Inv-loop-b : given.InvT-loop-b
-Inv-loop-b g l =
-    Clear (λ k. too-far (g .R·Ruler .meaning (l .ruler)) (l .from) (mark-at (l .marks) (l .a)) (row-at (l .self .rows) k) (mark-at (l .marks) k)) (l .b)
