@@ -1,0 +1,2 @@
+// Plans a net: the wires of least area between its sources and sinks, with the marks that show it.
+pub mod plan;
