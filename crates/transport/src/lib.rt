@@ -1,0 +1,3 @@
+// Least-cost transport from sources to sinks on plain numbers.
+pub mod case;
+pub mod plan;
