@@ -39,7 +39,7 @@ over-from-known m ws e = all-from-getD (Lies m) ws no-wire lie
 reach-from-near : (m : Meaning) (rows : List (Option Terminal)) (marks : List ℕ) → length rows ≡ 64 → Near m rows marks → marks-reach m rows marks ≡ None
 reach-from-near m rows marks full near = clear-passes (λ a. MarksApart (a + 1)) (strained m rows marks) 64 (λ a h. clear-absent (λ b. too-far m (row-at rows a) (mark-at marks a) (row-at rows b) (mark-at marks b)) 64 (λ b k. near a b (omega arith) (omega arith)))
 
-near-from-reach : (m : Meaning) (rows : List (Option Terminal)) (marks : List ℕ) → length rows ≡ 64 → marks-reach m rows marks ≡ None → Near m rows marks
+pub near-from-reach : (m : Meaning) (rows : List (Option Terminal)) (marks : List ℕ) → length rows ≡ 64 → marks-reach m rows marks ≡ None → Near m rows marks
 near-from-reach m rows marks full e a b h k = absent-clear (λ b. too-far m (row-at rows a) (mark-at marks a) (row-at rows b) (mark-at marks b)) 64 (clear-passed (λ a. MarksApart (a + 1)) (strained m rows marks) 64 e a (omega arith)) b (omega arith)
 
 -- the marks of a least list, laid out by row, pass every question

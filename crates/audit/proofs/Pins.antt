@@ -41,7 +41,7 @@ row-from-pins P (None ∷ rows) (x ∷ marks) zero t e r all = absurd (let z : _
 row-from-pins P (None ∷ rows) (x ∷ marks) (suc i) t e r all = row-from-pins P rows marks i t (omega arith) r all
 
 -- what holds of each seated terminal holds of a filled row
-row-from-seated : (P : Terminal → Type 0) (rows : List (Option Terminal)) (i : ℕ) (t : Terminal) → row-at rows i ≡ Some t → All P (seated rows) → P t
+pub row-from-seated : (P : Terminal → Type 0) (rows : List (Option Terminal)) (i : ℕ) (t : Terminal) → row-at rows i ≡ Some t → All P (seated rows) → P t
 row-from-seated P [] i t r all = absurd (let z : _≡_ {A = ℕ} 0 1 = cc in omega arith)
 row-from-seated P (Some u ∷ rows) zero t r all = let s : u ≡ t = cc in subst P s (all .0)
 row-from-seated P (Some u ∷ rows) (suc i) t r all = row-from-seated P rows i t r (all .1)

@@ -1,2 +1,5 @@
+pub mod Carried
 pub mod Counting
 pub mod Gathering
+pub mod Leastness
+pub mod Weighed
