@@ -3,7 +3,7 @@ use mathlib.Core.Path.{_≡_, refl, sym, ap, subst, _∙_}
 use mathlib.Core.Bool.{Bool}
 use mathlib.Core.List.{List}
 use mathlib.Core.Logic.{_⊎_, inl, inr, _≢_}
-use Prim.Native.Nat.{ℕ, suc, min, _+_, _≤_, _<_}
+use Prim.Native.Nat.{ℕ, zero, suc, min, _+_, _≤_, _<_}
 use native.Mathlib.Numerals.{add-one}
 use native.Mathlib.Omega.{arith}
 use lib.ListN.{length, set, replicate}
@@ -14,7 +14,12 @@ use Rattle.wires.specs.declared.terminal.Terminal.{Terminal}
 use Rattle.transport.specs.Transport.{at, sumTo}
 use Rattle.planner.specs.declared.ends.Ends.{Ends}
 use Rattle.planner.specs.Ends.{Gathered, amount-at}
-use Rattle.planner.proofs.Counting.{sumTo-same, count-le}
+use Rattle.transport.proofs.Sums.{sum-same}
+
+-- as many as there are rows, at the most
+count-le : (f : ℕ → ℕ) (n : ℕ) → sumTo (λ i. min 1 (f i)) n ≤ n
+count-le f zero = omega arith
+count-le f (suc n) = let rest = count-le f n in omega arith
 
 module _ (rows : List (Option Terminal)) (giving : Bool) where
   pub gathered-none : Gathered rows giving 0 (record { rows = replicate 64 0; count = 0 })
@@ -74,7 +79,7 @@ module _ (rows : List (Option Terminal)) (giving : Bool) where
       even : sumTo (λ k. amount-at rows giving (at (pushed .rows) k)) (e .count + 1) ≡ sumTo (amount-at rows giving) (suc n)
       even =
           let last = ap (amount-at rows giving) here in
-          let rest = sumTo-same (λ k. amount-at rows giving (at (pushed .rows) k)) (λ k. amount-at rows giving (at (e .rows) k)) (e .count) (λ k h. ap (amount-at rows giving) (there k h)) in
+          let rest = sum-same (λ k. amount-at rows giving (at (e .rows) k)) (λ k. amount-at rows giving (at (pushed .rows) k)) (e .count) (λ k h. ap (amount-at rows giving) (there k h)) in
           let is = g .even in
           rw add-one (omega arith)
 

@@ -1,6 +1,6 @@
 pub mod Carried
-pub mod Counting
 pub mod Filling
 pub mod Gathering
 pub mod Leastness
 pub mod Weighed
+pub mod Within
