@@ -1,7 +1,7 @@
 -- The number of every refusal, and the place that it names: an id, a wire counted from 0, a site, or 0.
 use Prim.Native.Nat.{ℕ}
 use Rattle.audit.specs.declared.refusal.Refusal.{Refusal}
-use Rattle.audit.specs.declared.refusal.Refusal.the-variants.{IdOutOfRange, IdTaken, IdFree, CurrentOutOfRange, SiteUnknown, MarkCount, WireCount, WireCurrent, WireSite, MarkOutOfRange, Unmet, MarksApart, AreaDiffers}
+use Rattle.audit.specs.declared.refusal.Refusal.the-variants.{IdOutOfRange, IdTaken, IdFree, CurrentOutOfRange, SiteUnknown, Unbalanced, NotPlanned, MarkCount, WireCount, WireCurrent, WireSite, MarkOutOfRange, Unmet, MarksApart, AreaDiffers}
 
 abbrev pub number-of : Refusal → ℕ
 number-of (IdOutOfRange id) = 1
@@ -9,6 +9,8 @@ number-of (IdTaken id) = 2
 number-of (IdFree id) = 3
 number-of (CurrentOutOfRange id) = 4
 number-of (SiteUnknown id) = 5
+number-of Unbalanced = 6
+number-of NotPlanned = 7
 number-of MarkCount = 8
 number-of WireCount = 9
 number-of (WireCurrent wire) = 10
@@ -24,6 +26,8 @@ place-of (IdTaken id) = id
 place-of (IdFree id) = id
 place-of (CurrentOutOfRange id) = id
 place-of (SiteUnknown id) = id
+place-of Unbalanced = 0
+place-of NotPlanned = 0
 place-of MarkCount = 0
 place-of WireCount = 0
 place-of (WireCurrent wire) = wire

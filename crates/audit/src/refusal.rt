@@ -9,6 +9,8 @@ pub enum Refusal {
     IdFree { id: u32 },
     CurrentOutOfRange { id: u32 },
     SiteUnknown { id: u32 },
+    Unbalanced,
+    NotPlanned,
     MarkCount,
     WireCount,
     WireCurrent { wire: u32 },
@@ -29,6 +31,8 @@ impl Refusal {
             Refusal::IdFree { .. } => 3,
             Refusal::CurrentOutOfRange { .. } => 4,
             Refusal::SiteUnknown { .. } => 5,
+            Refusal::Unbalanced => 6,
+            Refusal::NotPlanned => 7,
             Refusal::MarkCount => 8,
             Refusal::WireCount => 9,
             Refusal::WireCurrent { .. } => 10,
@@ -53,7 +57,11 @@ impl Refusal {
             | Refusal::MarksApart { id } => id,
             Refusal::WireCurrent { wire } | Refusal::WireSite { wire } => wire,
             Refusal::Unmet { site } => site,
-            Refusal::MarkCount | Refusal::WireCount | Refusal::AreaDiffers => 0,
+            Refusal::Unbalanced
+            | Refusal::NotPlanned
+            | Refusal::MarkCount
+            | Refusal::WireCount
+            | Refusal::AreaDiffers => 0,
         }
     }
 }

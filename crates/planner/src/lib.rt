@@ -2,3 +2,4 @@
 pub mod costs;
 pub mod ends;
 pub mod plan;
+pub mod planning;

@@ -1,3 +1,4 @@
 pub mod Questions
 pub mod Ledger
+pub mod Answers
 pub mod Law

@@ -1,17 +1,20 @@
--- The questions that edits are put to.
+-- The questions that calls are put to.
 use mathlib.Core.Bool.{Bool, true, not, _&&_}
 use mathlib.Core.List.{List}
 use Prim.Native.Nat.{ℕ, _-_}
 use lib.Dec.{leb}
-use lib.IntN.{ℤ}
+use lib.IntN.{ℤ, pos}
 use lib.ListN.{getD}
 use Rattle.std.specs.Options.{isSome}
 use Rattle.std.specs.declared.option.Option.{Option}
 use Rattle.std.specs.declared.option.Option.the-variants.{Some, None}
 use Rattle.ruler.specs.Meaning.{Meaning}
 use Rattle.wires.specs.declared.terminal.Terminal.{Terminal}
+use Rattle.wires.specs.Sums.{sum}
+use Rattle.wires.specs.Wiring.{seated}
+use Rattle.audit.specs.Audit.{differ}
 use Rattle.audit.specs.declared.refusal.Refusal.{Refusal}
-use Rattle.audit.specs.declared.refusal.Refusal.the-variants.{IdOutOfRange, IdTaken, IdFree, CurrentOutOfRange, SiteUnknown}
+use Rattle.audit.specs.declared.refusal.Refusal.the-variants.{IdOutOfRange, IdTaken, IdFree, CurrentOutOfRange, SiteUnknown, Unbalanced, NotPlanned}
 use Rattle.audit.specs.Questions.{ask, allowed}
 
 -- the row of an id
@@ -37,3 +40,10 @@ site-is-known m id site = ask (m .known site) (SiteUnknown id)
 abbrev pub row-known : Meaning → Option Terminal → Bool
 row-known m (Some t) = m .known (t .site)
 row-known m None = true
+
+-- the seated currents sum to 0
+abbrev pub currents-balance : List (Option Terminal) → Option Refusal
+currents-balance rows = ask (not (differ (sum (λ t. t .current) (seated rows)) (pos 0))) Unbalanced
+
+abbrev pub is-planned : Bool → Option Refusal
+is-planned planned = ask planned NotPlanned

@@ -10,7 +10,8 @@ ghost use Rattle.audit.specs.Law.{Upheld};
 ghost use Rattle.audit.specs.Questions.{allowed, first-no, outcome, row-allowed};
 ghost use Rattle.sheet.specs.Questions.{id-in-range, id-is-seated, row-known, row-of, site-is-known};
 ghost use Rattle.sheet.specs.Law.{Lawful};
-ghost use Rattle.sheet.specs.Ledger.{asked, fed};
+ghost use Rattle.sheet.specs.Answers.{ledger-of};
+ghost use Rattle.sheet.specs.Ledger.{asked, fed, unless};
 ghost use Rattle.sheet.specs.declared.call.Call.the-variants.{Seat, Move, Alter, Lift};
 use crate::sheet::Sheet;
 use audit::refusal::Refusal;
@@ -25,10 +26,11 @@ fn is_allowed(current: i32) -> bool
 
 impl<R: Ruler> Sheet<R> {
     pub fn seat(&mut self, id: u32, site: u32, current: i32) -> Result<(), Refusal>
-        ensures answer { λ r. ⌜ r ≡ outcome (asked (meaning (now (self .entry) .ruler)) (now (self .entry) .table .rows) (Seat id site current)) tt ⌝ }
-        ensures after { λ _. ⌜ now (self .exit) .table .rows ≡ fed (meaning (now (self .entry) .ruler)) (now (self .entry) .table .rows) (Seat id site current) ⌝ }
+        ensures answer { λ r. ⌜ r ≡ outcome (asked (meaning (now (self .entry) .ruler)) (ledger-of (now (self .entry) .net)) (Seat id site current)) tt ⌝ }
+        ensures after { λ _. ⌜ ledger-of (now (self .exit) .net) ≡ fed (meaning (now (self .entry) .ruler)) (ledger-of (now (self .entry) .net)) (Seat id site current) ⌝ }
+        ensures plan { λ _. ⌜ now (self .exit) .net .plan ≡ unless (asked (meaning (now (self .entry) .ruler)) (ledger-of (now (self .entry) .net)) (Seat id site current)) (now (self .entry) .net .plan) None ⌝ }
         ensures same { λ _. ⌜ now (self .exit) .ruler ≡ now (self .entry) .ruler ⌝ }
-        ensures law { λ _. ⌜ (Lawful (meaning (now (self .entry) .ruler)) (now (self .entry) .table .rows) → Lawful (meaning (now (self .exit) .ruler)) (now (self .exit) .table .rows)) ⌝ }
+        ensures law { λ _. ⌜ (Lawful (meaning (now (self .entry) .ruler)) (now (self .entry) .net) → Lawful (meaning (now (self .exit) .ruler)) (now (self .exit) .net)) ⌝ }
     {
         if let Some(refusal) = self.seat_question(id, site, current) {
             return Err(refusal);
@@ -38,10 +40,11 @@ impl<R: Ruler> Sheet<R> {
     }
 
     pub fn move_to(&mut self, id: u32, site: u32) -> Result<(), Refusal>
-        ensures answer { λ r. ⌜ r ≡ outcome (asked (meaning (now (self .entry) .ruler)) (now (self .entry) .table .rows) (Move id site)) tt ⌝ }
-        ensures after { λ _. ⌜ now (self .exit) .table .rows ≡ fed (meaning (now (self .entry) .ruler)) (now (self .entry) .table .rows) (Move id site) ⌝ }
+        ensures answer { λ r. ⌜ r ≡ outcome (asked (meaning (now (self .entry) .ruler)) (ledger-of (now (self .entry) .net)) (Move id site)) tt ⌝ }
+        ensures after { λ _. ⌜ ledger-of (now (self .exit) .net) ≡ fed (meaning (now (self .entry) .ruler)) (ledger-of (now (self .entry) .net)) (Move id site) ⌝ }
+        ensures plan { λ _. ⌜ now (self .exit) .net .plan ≡ unless (asked (meaning (now (self .entry) .ruler)) (ledger-of (now (self .entry) .net)) (Move id site)) (now (self .entry) .net .plan) None ⌝ }
         ensures same { λ _. ⌜ now (self .exit) .ruler ≡ now (self .entry) .ruler ⌝ }
-        ensures law { λ _. ⌜ (Lawful (meaning (now (self .entry) .ruler)) (now (self .entry) .table .rows) → Lawful (meaning (now (self .exit) .ruler)) (now (self .exit) .table .rows)) ⌝ }
+        ensures law { λ _. ⌜ (Lawful (meaning (now (self .entry) .ruler)) (now (self .entry) .net) → Lawful (meaning (now (self .exit) .ruler)) (now (self .exit) .net)) ⌝ }
     {
         let pin = self.seated(id)?;
         if let Some(refusal) = self.site_question(id, site) {
@@ -52,10 +55,11 @@ impl<R: Ruler> Sheet<R> {
     }
 
     pub fn alter(&mut self, id: u32, current: i32) -> Result<(), Refusal>
-        ensures answer { λ r. ⌜ r ≡ outcome (asked (meaning (now (self .entry) .ruler)) (now (self .entry) .table .rows) (Alter id current)) tt ⌝ }
-        ensures after { λ _. ⌜ now (self .exit) .table .rows ≡ fed (meaning (now (self .entry) .ruler)) (now (self .entry) .table .rows) (Alter id current) ⌝ }
+        ensures answer { λ r. ⌜ r ≡ outcome (asked (meaning (now (self .entry) .ruler)) (ledger-of (now (self .entry) .net)) (Alter id current)) tt ⌝ }
+        ensures after { λ _. ⌜ ledger-of (now (self .exit) .net) ≡ fed (meaning (now (self .entry) .ruler)) (ledger-of (now (self .entry) .net)) (Alter id current) ⌝ }
+        ensures plan { λ _. ⌜ now (self .exit) .net .plan ≡ unless (asked (meaning (now (self .entry) .ruler)) (ledger-of (now (self .entry) .net)) (Alter id current)) (now (self .entry) .net .plan) None ⌝ }
         ensures same { λ _. ⌜ now (self .exit) .ruler ≡ now (self .entry) .ruler ⌝ }
-        ensures law { λ _. ⌜ (Lawful (meaning (now (self .entry) .ruler)) (now (self .entry) .table .rows) → Lawful (meaning (now (self .exit) .ruler)) (now (self .exit) .table .rows)) ⌝ }
+        ensures law { λ _. ⌜ (Lawful (meaning (now (self .entry) .ruler)) (now (self .entry) .net) → Lawful (meaning (now (self .exit) .ruler)) (now (self .exit) .net)) ⌝ }
     {
         let pin = self.seated(id)?;
         if !is_allowed(current) {
@@ -66,35 +70,38 @@ impl<R: Ruler> Sheet<R> {
     }
 
     pub fn lift(&mut self, id: u32) -> Result<(), Refusal>
-        ensures answer { λ r. ⌜ r ≡ outcome (asked (meaning (now (self .entry) .ruler)) (now (self .entry) .table .rows) (Lift id)) tt ⌝ }
-        ensures after { λ _. ⌜ now (self .exit) .table .rows ≡ fed (meaning (now (self .entry) .ruler)) (now (self .entry) .table .rows) (Lift id) ⌝ }
+        ensures answer { λ r. ⌜ r ≡ outcome (asked (meaning (now (self .entry) .ruler)) (ledger-of (now (self .entry) .net)) (Lift id)) tt ⌝ }
+        ensures after { λ _. ⌜ ledger-of (now (self .exit) .net) ≡ fed (meaning (now (self .entry) .ruler)) (ledger-of (now (self .entry) .net)) (Lift id) ⌝ }
+        ensures plan { λ _. ⌜ now (self .exit) .net .plan ≡ unless (asked (meaning (now (self .entry) .ruler)) (ledger-of (now (self .entry) .net)) (Lift id)) (now (self .entry) .net .plan) None ⌝ }
         ensures same { λ _. ⌜ now (self .exit) .ruler ≡ now (self .entry) .ruler ⌝ }
-        ensures law { λ _. ⌜ (Lawful (meaning (now (self .entry) .ruler)) (now (self .entry) .table .rows) → Lawful (meaning (now (self .exit) .ruler)) (now (self .exit) .table .rows)) ⌝ }
+        ensures law { λ _. ⌜ (Lawful (meaning (now (self .entry) .ruler)) (now (self .entry) .net) → Lawful (meaning (now (self .exit) .ruler)) (now (self .exit) .net)) ⌝ }
     {
         let _ = self.seated(id)?;
         self.enter(id, None);
         Ok(())
     }
 
-    // Changes one row and no other.
+    // Changes one row and no other; the plan is gone.
     fn enter(&mut self, id: u32, row: Option<Terminal>)
         requires { ⌜ 1 ≤ id ⌝ ∗ ⌜ id ≤ 64 ⌝ ∗ ⌜ row-allowed row ≡ true ⌝ }
-        ensures after { λ _. ⌜ now (self .exit) .table .rows ≡ set (now (self .entry) .table .rows) (id - 1) row ⌝ }
+        ensures after { λ _. ⌜ now (self .exit) .net .table .rows ≡ set (now (self .entry) .net .table .rows) (id - 1) row ⌝ }
+        ensures plan { λ _. ⌜ now (self .exit) .net .plan ≡ None ⌝ }
         ensures same { λ _. ⌜ now (self .exit) .ruler ≡ now (self .entry) .ruler ⌝ }
-        ensures law { λ _. ⌜ (row-known (meaning (now (self .entry) .ruler)) row ≡ true → Upheld (meaning (now (self .entry) .ruler)) (now (self .entry) .table .rows) → Lawful (meaning (now (self .exit) .ruler)) (now (self .exit) .table .rows)) ⌝ }
+        ensures law { λ _. ⌜ (row-known (meaning (now (self .entry) .ruler)) row ≡ true → Upheld (meaning (now (self .entry) .ruler)) (now (self .entry) .net .table .rows) → Lawful (meaning (now (self .exit) .ruler)) (now (self .exit) .net)) ⌝ }
     {
-        self.table.rows[id as usize - 1] = row;
+        self.net.table.rows[id as usize - 1] = row;
+        self.net.plan = None;
     }
 
     // The first no of the questions that seat is put to.
     fn seat_question(&self, id: u32, site: u32, current: i32) -> Option<Refusal>
-        ensures asked { λ r. ⌜ r ≡ asked (meaning (now (self .entry) .ruler)) (now (self .entry) .table .rows) (Seat id site current) ⌝ }
+        ensures asked { λ r. ⌜ r ≡ asked (meaning (now (self .entry) .ruler)) (ledger-of (now (self .entry) .net)) (Seat id site current) ⌝ }
         ensures known { λ r. ⌜ (r ≡ None → meaning (now (self .entry) .ruler) .known site ≡ true) ⌝ }
     {
         if id < 1 || id > 64 {
             return Some(Refusal::IdOutOfRange { id });
         }
-        let row = self.table.rows[id as usize - 1];
+        let row = self.net.table.rows[id as usize - 1];
         if row.is_some() {
             return Some(Refusal::IdTaken { id });
         }
@@ -116,13 +123,13 @@ impl<R: Ruler> Sheet<R> {
 
     // The terminal of an id, or the first no of the two questions that ask for one.
     fn seated(&self, id: u32) -> Result<Terminal, Refusal>
-        ensures found { λ r. ⌜ elim r [ Ok t ↦ (1 ≤ id) × (id ≤ 64) × (row-of (now (self .entry) .table .rows) id ≡ Some t) | Err e ↦ Some e ≡ first-no (id-in-range id ∷ id-is-seated (now (self .entry) .table .rows) id ∷ []) ] ⌝ }
-        ensures known { λ r. ⌜ elim r [ Ok t ↦ (Upheld (meaning (now (self .entry) .ruler)) (now (self .entry) .table .rows) → meaning (now (self .entry) .ruler) .known (t .site) ≡ true) | Err e ↦ Unit {0} ] ⌝ }
+        ensures found { λ r. ⌜ elim r [ Ok t ↦ (1 ≤ id) × (id ≤ 64) × (row-of (now (self .entry) .net .table .rows) id ≡ Some t) | Err e ↦ Some e ≡ first-no (id-in-range id ∷ id-is-seated (now (self .entry) .net .table .rows) id ∷ []) ] ⌝ }
+        ensures known { λ r. ⌜ elim r [ Ok t ↦ (Upheld (meaning (now (self .entry) .ruler)) (now (self .entry) .net .table .rows) → meaning (now (self .entry) .ruler) .known (t .site) ≡ true) | Err e ↦ Unit {0} ] ⌝ }
     {
         if id < 1 || id > 64 {
             return Err(Refusal::IdOutOfRange { id });
         }
-        let row = self.table.rows[id as usize - 1];
+        let row = self.net.table.rows[id as usize - 1];
         let Some(terminal) = row else {
             return Err(Refusal::IdFree { id });
         };

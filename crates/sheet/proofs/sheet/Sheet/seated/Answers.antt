@@ -9,4 +9,4 @@ pub returns : need.returns
 returns g c =
     let sheet = c .args .self .now in
     let m = g .R·Ruler .meaning (sheet .ruler) in
-    record { found = search needs; known = λ up. ap (row-known m) (sym (c .in-Some .is)) ∙ kept-row m (sheet .table .rows) (c .args .id - 1) (up .known) }
+    record { found = search needs; known = λ up. ap (row-known m) (sym (c .in-Some .is)) ∙ kept-row m (sheet .net .table .rows) (c .args .id - 1) (up .known) }
