@@ -36,7 +36,7 @@ over-from-known m ws e = all-from-getD (Lies m) ws no-wire lie
         record { leaves = ends .0; arrives = ends .1 }
 
 -- of no row is another marked too far above, asked row by row
-reach-from-near : (m : Meaning) (rows : List (Option Terminal)) (marks : List ℕ) → length rows ≡ 64 → Near m rows marks → marks-reach m rows marks ≡ None
+pub reach-from-near : (m : Meaning) (rows : List (Option Terminal)) (marks : List ℕ) → length rows ≡ 64 → Near m rows marks → marks-reach m rows marks ≡ None
 reach-from-near m rows marks full near = clear-passes (λ a. MarksApart (a + 1)) (strained m rows marks) 64 (λ a h. clear-absent (λ b. too-far m (row-at rows a) (mark-at marks a) (row-at rows b) (mark-at marks b)) 64 (λ b k. near a b (omega arith) (omega arith)))
 
 pub near-from-reach : (m : Meaning) (rows : List (Option Terminal)) (marks : List ℕ) → length rows ≡ 64 → marks-reach m rows marks ≡ None → Near m rows marks

@@ -59,7 +59,7 @@ reaches-from-near m t u x y = go (m .known (t .site) && m .known (u .site))
     go true e = ltb-false (x + m .span (t .site) (u .site)) y e
     go false e = absurd (true≢false e)
 
-near-from-reaches : (m : Meaning) (t u : Terminal) (x y : ℕ) → m .known (t .site) ≡ true → m .known (u .site) ≡ true → y ≤ x + m .span (t .site) (u .site) → too-far m (Some t) x (Some u) y ≡ false
+pub near-from-reaches : (m : Meaning) (t u : Terminal) (x y : ℕ) → m .known (t .site) ≡ true → m .known (u .site) ≡ true → y ≤ x + m .span (t .site) (u .site) → too-far m (Some t) x (Some u) y ≡ false
 near-from-reaches m t u x y k l h =
     let e = and-from (m .known (t .site)) (m .known (u .site)) k l in
     ap (λ b. beyond (cond b (Some (m .span (t .site) (u .site))) None) x y) e ∙ le-ltb (x + m .span (t .site) (u .site)) y h

@@ -1,19 +1,20 @@
 -- The rows that give or take, gathered one after another.
-use mathlib.Core.Path.{_≡_, refl, sym, ap, subst, _∙_}
+use mathlib.Core.Path.{_≡_, refl, sym, ap, _∙_}
 use mathlib.Core.Bool.{Bool}
 use mathlib.Core.List.{List}
-use mathlib.Core.Logic.{_⊎_, inl, inr, _≢_}
+use mathlib.Core.Logic.{_⊎_, inl, inr}
 use Prim.Native.Nat.{ℕ, zero, suc, min, _+_, _≤_, _<_}
 use native.Mathlib.Numerals.{add-one}
 use native.Mathlib.Omega.{arith}
-use lib.ListN.{length, set, replicate}
+use lib.ListN.{set, replicate}
 use Rattle.std.proofs.shelf.Lists.{length-set, getD-set-same, getD-set-other}
-use Rattle.std.proofs.shelf.Tests.{cases-eq, cases-order}
+use Rattle.std.proofs.shelf.Tests.{cases-eq}
 use Rattle.std.specs.declared.option.Option.{Option}
 use Rattle.wires.specs.declared.terminal.Terminal.{Terminal}
 use Rattle.transport.specs.Transport.{at, sumTo}
 use Rattle.planner.specs.declared.ends.Ends.{Ends}
 use Rattle.planner.specs.Ends.{Gathered, amount-at}
+use Rattle.planner.specs.Listing.{Placed}
 use Rattle.transport.proofs.Sums.{sum-same}
 
 -- as many as there are rows, at the most
@@ -28,6 +29,10 @@ module _ (rows : List (Option Terminal)) (giving : Bool) where
   module _ (n : ℕ) (e : Ends) (g : Gathered rows giving n e) where
     pub gathered-count : e .count ≤ n
     gathered-count = let few = count-le (amount-at rows giving) n in let is = g .count in omega arith
+
+    -- they stand in ascending rows
+    pub gathered-placed : n ≡ 64 → Placed e
+    gathered-placed all = record { size = g .size; few = let few = gathered-count in omega arith; inside = λ k h. let i = g .inside k h in omega arith; ascending = g .ascending }
 
     -- a row that neither gives nor takes
     pub gathered-skip : amount-at rows giving n ≡ 0 → Gathered rows giving (suc n) e

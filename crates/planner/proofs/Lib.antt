@@ -1,6 +1,17 @@
 pub mod Carried
+pub mod Counting
+pub mod Drafting
+pub mod Dues
+pub mod Fairness
 pub mod Filling
 pub mod Gathering
+pub mod Laying
 pub mod Leastness
+pub mod Limits
+pub mod Listed
+pub mod Marking
+pub mod Reaching
+pub mod Seats
+pub mod Standing
 pub mod Weighed
 pub mod Within

@@ -24,7 +24,7 @@ use Rattle.planner.specs.declared.plan.Plan.{Plan}
 use Rattle.planner.specs.Planned.{Planned, Runs, links-of, sent, received}
 use Rattle.planner.proofs.Carried.{sum-to, sum-to-same, sum-to-sub, carried-sum, carried-none}
 
-row-below : (rows : List (Option Terminal)) (i : ℕ) (t : Terminal) → row-at rows i ≡ Some t → i < length rows
+pub row-below : (rows : List (Option Terminal)) (i : ℕ) (t : Terminal) → row-at rows i ≡ Some t → i < length rows
 row-below rows i t e = go (cases-lt i (length rows))
   where
     go : (i < length rows) ⊎ (length rows ≤ i) → i < length rows

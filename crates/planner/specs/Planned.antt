@@ -81,3 +81,8 @@ pub record Planned (m : Meaning) (rows : List (Option Terminal)) (p : Plan) : Ty
   pub reach : marks-reach m rows (p .marks) ≡ None
   pub tight : All (λ l. mark-of (p .marks) (l .to) ≡ mark-of (p .marks) (l .from) + m .span (site-of rows (l .from)) (site-of rows (l .to))) (links-of p)
   pub area-is : p .area ≡ area m (wires-of rows (links-of p))
+
+-- what holds of a plan, where there is one
+abbrev pub IfPlanned : Option Plan → (Plan → Type 0) → Type 0
+IfPlanned (Some p) P = P p
+IfPlanned None P = Unit {0}

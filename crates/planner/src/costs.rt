@@ -75,7 +75,7 @@ fn costs_of<R: Ruler>(ruler: &R, table: &Table, sources: &Ends, sinks: &Ends) ->
     costs
 }
 
-fn case_of<R: Ruler>(ruler: &R, table: &Table, sources: &Ends, sinks: &Ends) -> Case
+pub fn case_of<R: Ruler>(ruler: &R, table: &Table, sources: &Ends, sinks: &Ends) -> Case
     requires { ⌜ Gathered (now table .rows) true 64 (now sources) ⌝ ∗ ⌜ Gathered (now table .rows) false 64 (now sinks) ⌝ }
     ensures { λ r. ⌜ CaseOf (meaning (now (ruler .entry))) (now (table .entry) .rows) (now (sources .entry)) (now (sinks .entry)) r ⌝ }
 {

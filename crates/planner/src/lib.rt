@@ -1,5 +1,6 @@
 // Plans a net: the wires of least area between its sources and sinks, with the marks that show it.
-pub mod costs;
-pub mod ends;
+mod costs;
+mod ends;
+mod listing;
 pub mod plan;
 pub mod planning;

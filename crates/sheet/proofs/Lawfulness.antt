@@ -19,10 +19,10 @@ use Rattle.audit.specs.Law.{Upheld}
 use Rattle.audit.proofs.Auditing.{law-holds}
 use Rattle.audit.proofs.Meeting.{differ-from-same, same-from-differ}
 use Rattle.planner.specs.declared.plan.Plan.{Plan}
-use Rattle.planner.specs.Planned.{Planned}
+use Rattle.planner.specs.Planned.{IfPlanned, Planned}
 use Rattle.planner.proofs.Leastness.{planned-least, planned-marks}
 use Rattle.sheet.specs.declared.net.Net.{Net}
-use Rattle.sheet.specs.Law.{IfPlanned, Lawful, PlanLeast, PlanRefused}
+use Rattle.sheet.specs.Law.{Lawful, PlanLeast, PlanRefused}
 use Rattle.sheet.specs.Questions.{currents-balance}
 
 module _ (m : Meaning) (rows : List (Option Terminal)) (up : Upheld m rows) where

@@ -4,7 +4,7 @@ use mathlib.Core.List.{List}
 use mathlib.Core.Logic.{_↔_}
 use Prim.Native.Nat.{ℕ, _≤_}
 use Rattle.std.specs.declared.option.Option.{Option}
-use Rattle.std.specs.declared.option.Option.the-variants.{Some, None}
+use Rattle.std.specs.declared.option.Option.the-variants.{None, Some}
 use Rattle.ruler.specs.Meaning.{Meaning}
 use Rattle.wires.specs.declared.terminal.Terminal.{Terminal}
 use Rattle.wires.specs.declared.wire.Wire.{Wire}
@@ -13,7 +13,7 @@ use Rattle.audit.specs.declared.refusal.Refusal.the-variants.{Unbalanced}
 use Rattle.audit.specs.Audit.{audit-asked}
 use Rattle.audit.specs.Law.{Law, Readable, Upheld}
 use Rattle.planner.specs.declared.plan.Plan.{Plan}
-use Rattle.planner.specs.Planned.{Planned, links-of, wires-of}
+use Rattle.planner.specs.Planned.{IfPlanned, Planned, links-of, wires-of}
 use Rattle.sheet.specs.declared.net.Net.{Net}
 use Rattle.sheet.specs.Questions.{currents-balance}
 
@@ -29,10 +29,6 @@ pub record PlanLeast (m : Meaning) (rows : List (Option Terminal)) (p : Plan) : 
   pub plan : Planned m rows p
   pub least : Least m (seated rows) (wires-of rows (links-of p))
   pub marks : (ws : List Wire) → Readable m ws → Least m (seated rows) ws → audit-asked m rows ws (p .marks) ≡ None
-
-abbrev pub IfPlanned : Option Plan → (Plan → Type 0) → Type 0
-IfPlanned (Some p) P = P p
-IfPlanned None P = Unit {0}
 
 -- What stands at the opening and after every call.
 pub record Lawful (m : Meaning) (net : Net) : Type 0 where
