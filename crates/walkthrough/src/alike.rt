@@ -1,4 +1,5 @@
 // Whether two sheets answer alike: area, wires and marks.
+use crate::calls;
 use ruler::plane::Plane;
 use ruler::plane::PlaneRuler;
 use sheet::call::Answer;
@@ -7,17 +8,14 @@ use sheet::call::Call;
 use sheet::run::perform;
 use sheet::sheet::Sheet;
 
-fn same(a: &mut Sheet<Plane>, b: &mut Sheet<Plane>, call: &Call) -> bool {
-    perform(a, call) == perform(b, call)
+fn alike(a: &mut Sheet<Plane>, b: &mut Sheet<Plane>, calls: &[Call]) -> bool {
+    let mut alike = true;
+    for i in 0..calls.len() {
+        alike = perform(a, &calls[i]) == perform(b, &calls[i]) && alike;
+    }
+    alike
 }
 
 pub fn answer_alike(a: &mut Sheet<Plane>, b: &mut Sheet<Plane>) -> bool {
-    let mut alike = same(a, b, &Call::Area);
-    for number in 0..1_024 {
-        alike = same(a, b, &Call::Wire { number }) && alike;
-    }
-    for id in 1..=64 {
-        alike = same(a, b, &Call::Mark { id }) && alike;
-    }
-    alike
+    alike(a, b, &calls::AREA) && alike(a, b, &calls::WIRES) && alike(a, b, &calls::MARKS)
 }

@@ -16,6 +16,21 @@ pub static NEAREST: [Wire; 2] = [
     },
 ];
 
+pub static AREA: [Call<'static>; 1] = [Call::Area];
+
+pub static WIRES: [Call<'static>; 3] = [
+    Call::Wire { number: 0 },
+    Call::Wire { number: 1 },
+    Call::Wire { number: 2 },
+];
+
+pub static MARKS: [Call<'static>; 4] = [
+    Call::Mark { id: 1 },
+    Call::Mark { id: 2 },
+    Call::Mark { id: 3 },
+    Call::Mark { id: 4 },
+];
+
 pub static RUN: [Call<'static>; 44] = [
     // four pins, planned
     Call::Seat {

@@ -43,16 +43,17 @@ fn file(
     show::answer(rt, perform(sheet, &call))
 }
 
-fn mark_of(sheet: &mut Sheet<Plane>, id: u32) -> u32 {
-    match perform(sheet, &Call::Mark { id }) {
+// The mark that a call answers, 0 where it answers none.
+fn mark_of(sheet: &mut Sheet<Plane>, call: &Call) -> u32 {
+    match perform(sheet, call) {
         Answer::Mark(mark) => mark,
         _ => 0,
     }
 }
 
-// A planned wire between the sites of ids 1 to 4.
-fn wire_of(sheet: &mut Sheet<Plane>, number: u32, sites: [u32; 4]) -> Option<Wire> {
-    let Answer::Wire(Some((from, to, current))) = perform(sheet, &Call::Wire { number }) else {
+// The planned wire that a call answers, between the sites of ids 1 to 4.
+fn wire_of(sheet: &mut Sheet<Plane>, call: &Call, sites: [u32; 4]) -> Option<Wire> {
+    let Answer::Wire(Some((from, to, current))) = perform(sheet, call) else {
         return None;
     };
     if from < 1 || from > 4 || to < 1 || to > 4 {
@@ -69,16 +70,14 @@ fn wire_of(sheet: &mut Sheet<Plane>, number: u32, sites: [u32; 4]) -> Option<Wir
 
 // Files the sheet's own two wires with its own marks.
 fn file_own(rt: &LibcRuntime, sheet: &mut Sheet<Plane>, sites: [u32; 4]) -> io::Result<()> {
-    let marks = [
-        mark_of(sheet, 1),
-        mark_of(sheet, 2),
-        mark_of(sheet, 3),
-        mark_of(sheet, 4),
-    ];
-    let Some(first) = wire_of(sheet, 0, sites) else {
+    let mut marks = [0; 4];
+    for i in 0..4 {
+        marks[i] = mark_of(sheet, &calls::MARKS[i]);
+    }
+    let Some(first) = wire_of(sheet, &calls::WIRES[0], sites) else {
         return println!(rt, "no first wire");
     };
-    let Some(second) = wire_of(sheet, 1, sites) else {
+    let Some(second) = wire_of(sheet, &calls::WIRES[1], sites) else {
         return println!(rt, "no second wire");
     };
     file(rt, sheet, &[first, second], marks)
