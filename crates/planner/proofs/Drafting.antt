@@ -12,7 +12,7 @@ use Rattle.transport.specs.declared.case.Case.{Case}
 use Rattle.transport.specs.declared.plan.Plan.{Plan}
 use Rattle.transport.specs.Transport.{cell, cost-of}
 use Rattle.planner.specs.declared.ends.Ends.{Ends}
-use Rattle.planner.specs.declared.listing.Draft.{Draft}
+use Rattle.planner.specs.declared.ends.costs.listing.Draft.{Draft}
 use Rattle.planner.specs.declared.plan.Link.{Link}
 use Rattle.planner.specs.Listing.{Solved, Drafted, link-at, row-links, all-links, row-cost, all-cost}
 use Rattle.transport.proofs.Sums.{sum-at}

@@ -9,7 +9,7 @@ use Rattle.transport.specs.declared.case.Case.{Case}
 use Rattle.transport.specs.declared.plan.Plan.{Plan}
 use Rattle.transport.specs.Transport.{at, cell, cost-of, sumTo, within, Optimal}
 use Rattle.planner.specs.declared.ends.Ends.{Ends}
-use Rattle.planner.specs.declared.listing.Draft.{Draft}
+use Rattle.planner.specs.declared.ends.costs.listing.Draft.{Draft}
 use Rattle.planner.specs.declared.plan.Link.{Link}
 
 -- ends that stand in ascending rows of the 64

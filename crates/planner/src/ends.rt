@@ -4,14 +4,18 @@ ghost use Rattle.planner.specs.Ends.{Gathered, amount};
 use audit::table::Table;
 use wires::terminal::Terminal;
 
+mod costs;
+
+pub use costs::plan_of;
+
 #[derive(Clone, Copy)]
-pub struct Ends {
-    pub rows: [usize; 64],
-    pub count: usize,
+struct Ends {
+    rows: [usize; 64],
+    count: usize,
 }
 
 // What a row gives, or takes: a demand is a negated current.
-pub fn amount_of(row: Option<Terminal>, giving: bool) -> u32
+fn amount_of(row: Option<Terminal>, giving: bool) -> u32
     ensures { λ r. ⌜ r ≡ amount giving row ⌝ }
 {
     match row {
@@ -24,7 +28,7 @@ pub fn amount_of(row: Option<Terminal>, giving: bool) -> u32
     }
 }
 
-pub fn ends_of(table: &Table, giving: bool) -> Ends
+fn ends_of(table: &Table, giving: bool) -> Ends
     ensures { λ r. ⌜ Gathered (now (table .entry) .rows) giving 64 r ⌝ }
 {
     let mut ends = Ends {

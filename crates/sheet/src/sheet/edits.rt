@@ -90,6 +90,15 @@ impl<R: Ruler> Sheet<R> {
         ensures law { λ _. ⌜ (row-known (meaning (now (self .entry) .ruler)) row ≡ true → Upheld (meaning (now (self .entry) .ruler)) (now (self .entry) .net .table .rows) → Lawful (meaning (now (self .exit) .ruler)) (now (self .exit) .net)) ⌝ }
     {
         self.net.table.rows[id as usize - 1] = row;
+        self.reopen();
+    }
+
+    // The sheet is open: its wires and marks are gone.
+    fn reopen(&mut self)
+        ensures plan { λ _. ⌜ now (self .exit) .net .plan ≡ None ⌝ }
+        ensures table { λ _. ⌜ now (self .exit) .net .table ≡ now (self .entry) .net .table ⌝ }
+        ensures same { λ _. ⌜ now (self .exit) .ruler ≡ now (self .entry) .ruler ⌝ }
+    {
         self.net.plan = None;
     }
 

@@ -11,7 +11,7 @@ ghost use Rattle.sheet.specs.Ledger.{asked, fed};
 ghost use Rattle.sheet.specs.declared.call.Call.the-variants.{Plan};
 use crate::sheet::Sheet;
 use audit::refusal::Refusal;
-use planner::planning::plan_of;
+use planner::plan_of;
 use ruler::ruler::Ruler;
 use wires::balance::balance_of;
 
