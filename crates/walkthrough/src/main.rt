@@ -2,6 +2,7 @@
 use ruler::plane::Plane;
 use ruler::plane::PlaneRuler;
 use sheet::call::Answer;
+use sheet::call::AnswerPartialEq;
 use sheet::call::Call;
 use sheet::run::follow;
 use sheet::run::perform;
@@ -9,16 +10,86 @@ use sheet::sheet::Sheet;
 use std::io;
 use wires::wire::Wire;
 
-mod alike;
 mod calls;
-mod show;
+
+fn show_site(rt: &LibcRuntime, site: u32) -> io::Result<()> {
+    let x = site % 65_536;
+    let y = site / 65_536;
+    print!(rt, " ({x},{y})")
+}
+
+fn show_list(rt: &LibcRuntime, wires: &[Wire]) -> io::Result<()> {
+    for wire in wires {
+        show_site(rt, wire.start)?;
+        print!(rt, " to")?;
+        show_site(rt, wire.end)?;
+        let current = wire.current;
+        print!(rt, " carries {current},")?;
+    }
+    Ok(())
+}
+
+// The marks of the ids that the net uses.
+fn show_table(rt: &LibcRuntime, marks: &[u32]) -> io::Result<()> {
+    print!(rt, " marks")?;
+    for mark in marks.iter().take(4) {
+        print!(rt, " {mark}")?;
+    }
+    Ok(())
+}
+
+fn show_call(rt: &LibcRuntime, call: &Call) -> io::Result<()> {
+    match *call {
+        Call::Seat {
+            id,
+            site: at,
+            current,
+        } => {
+            print!(rt, "seat {id} with {current} at")?;
+            show_site(rt, at)
+        }
+        Call::Move { id, site: at } => {
+            print!(rt, "move {id} to")?;
+            show_site(rt, at)
+        }
+        Call::Alter { id, current } => print!(rt, "alter {id} to {current}"),
+        Call::Lift { id } => print!(rt, "lift {id}"),
+        Call::Plan => print!(rt, "plan"),
+        Call::Audit { wires, marks } => {
+            print!(rt, "audit")?;
+            show_list(rt, wires)?;
+            show_table(rt, marks)
+        }
+        Call::Area => print!(rt, "area"),
+        Call::Wire { number } => print!(rt, "wire {number}"),
+        Call::Mark { id } => print!(rt, "mark {id}"),
+    }
+}
+
+fn show_answer(rt: &LibcRuntime, answer: Answer) -> io::Result<()> {
+    match answer {
+        Answer::Done => println!(rt, ": done"),
+        Answer::Area(area) => println!(rt, ": area {area}"),
+        Answer::Wire(Some((from, to, current))) => println!(
+            rt,
+            ": from {from} to {to} carries {current}"
+        ),
+        Answer::Wire(None) => println!(rt, ": absent"),
+        Answer::Mark(mark) => println!(rt, ": {mark}"),
+        Answer::Refused(refusal) => {
+            let number = refusal.number();
+            let place = refusal.place();
+            println!(rt, ": refused {number}, place {place}")
+        }
+    }
+}
 
 // Makes the calls, and prints each with its answer.
 fn act(rt: &LibcRuntime, sheet: &mut Sheet<Plane>, calls: &[Call]) -> io::Result<()> {
     for i in 0..calls.len() {
-        show::call(rt, &calls[i])?;
+        show_call(rt, &calls[i])?;
         let answer = perform(sheet, &calls[i]);
-        show::answer(rt, answer)?;
+        show_answer(rt, answer)?;
     }
     Ok(())
 }
@@ -39,8 +110,8 @@ fn file(
         wires,
         marks: &table,
     };
-    show::call(rt, &call)?;
-    show::answer(rt, perform(sheet, &call))
+    show_call(rt, &call)?;
+    show_answer(rt, perform(sheet, &call))
 }
 
 // The mark that a call answers, 0 where it answers none.
@@ -83,6 +154,19 @@ fn file_own(rt: &LibcRuntime, sheet: &mut Sheet<Plane>, sites: [u32; 4]) -> io::
     file(rt, sheet, &[first, second], marks)
 }
 
+// Whether two sheets answer the calls alike.
+fn alike(a: &mut Sheet<Plane>, b: &mut Sheet<Plane>, calls: &[Call]) -> bool {
+    let mut alike = true;
+    for i in 0..calls.len() {
+        alike = perform(a, &calls[i]) == perform(b, &calls[i]) && alike;
+    }
+    alike
+}
+
+fn answer_alike(a: &mut Sheet<Plane>, b: &mut Sheet<Plane>) -> bool {
+    alike(a, b, &calls::AREA) && alike(a, b, &calls::WIRES) && alike(a, b, &calls::MARKS)
+}
+
 fn plan_pins(rt: &LibcRuntime, sheet: &mut Sheet<Plane>) -> io::Result<()> {
     println!(rt, "Four pins on a line, planned.")?;
     act(rt, sheet, &calls::RUN[0..15])?;
@@ -113,7 +197,7 @@ fn main(rt: LibcRuntime) -> io::Result<()> {
     act(&rt, &mut sheet, &calls::RUN[36..44])?;
     println!(rt, "The whole run once more.")?;
     let mut again = follow(Plane, &calls::RUN);
-    if alike::answer_alike(&mut sheet, &mut again) {
+    if answer_alike(&mut sheet, &mut again) {
         println!(rt, "the two sheets answer alike")
     } else {
         println!(rt, "the two sheets differ")
