@@ -15,6 +15,7 @@ use Rattle.ruler.specs.Meaning.{Meaning}
 use Rattle.wires.specs.declared.wire.Wire.{Wire}
 use Rattle.wires.specs.Wiring.{share, flow, net, Lies, Over, metal, area}
 use Rattle.wires.proofs.Integers.{add-mul as add-mulℤ, one-mul}
+use Rattle.wires.proofs.Shares.{share-add}
 use Rattle.wires.proofs.Sums.{sum-append, total-append}
 
 -- some folds of the list, and one unit more from u to v, at some folds of the area and z more
@@ -80,9 +81,6 @@ record Lessened (m : Meaning) (ws : List Wire) (a b : ℕ) : Type 0 where
   over : Over m rival
   moves : (s : ℕ) → net rival s ≡ net ws s -ℤ (share a s (pos 1) -ℤ share b s (pos 1))
   costs : area m rival + m .span a b ≡ area m ws
-
-share-add : (a s : ℕ) (y z : ℤ) → share a s (y +ℤ z) ≡ share a s y +ℤ share a s z
-share-add a s y z = elim (eqb a s) as (λ t. cond t (y +ℤ z) (pos 0) ≡ cond t y (pos 0) +ℤ cond t z (pos 0)) [ true ↦ refl | false ↦ refl ]
 
 -- one unit less in the first wire
 thinner : (m : Meaning) (w : Wire) (ws : List Wire) (a b : ℕ) → Over m (w ∷ ws) → w .start ≡ a → w .end ≡ b → 0 < w .current → Lessened m (w ∷ ws) a b

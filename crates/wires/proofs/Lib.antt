@@ -9,3 +9,4 @@ pub mod Heights
 pub mod Changes
 pub mod Potentials
 pub mod Completeness
+pub mod Shares

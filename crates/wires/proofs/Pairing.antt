@@ -14,6 +14,7 @@ use Rattle.wires.specs.declared.terminal.Terminal.{Terminal}
 use Rattle.wires.specs.declared.wire.Wire.{Wire}
 use Rattle.wires.specs.Sums.{sum}
 use Rattle.wires.specs.Wiring.{share, net, due, Meets}
+use Rattle.wires.proofs.Shares.{share-mul, share-neg}
 use Rattle.wires.proofs.Integers.{add-mul, mul-add, mul-sub, neg-mul, mul-assoc}
 
 -- an amount that stands at a site
@@ -111,20 +112,6 @@ seats k (t ∷ ts) = record { place = t .site; amount = negℤ (pos k *ℤ t .cu
 abbrev entries : ℕ → List Terminal → List Wire → List Entry
 entries k ts [] = seats k ts
 entries k ts (w ∷ ws) = record { place = w .start; amount = pos (w .current) } ∷ record { place = w .end; amount = negℤ (pos (w .current)) } ∷ entries k ts ws
-
-pub share-neg : (a s : ℕ) (z : ℤ) → share a s (negℤ z) ≡ negℤ (share a s z)
-share-neg a s z = go (eqb a s)
-  where
-    go : (b : Bool) → cond b (negℤ z) (pos 0) ≡ negℤ (cond b z (pos 0))
-    go true = refl
-    go false = omega (arith, ints)
-
-pub share-mul : (a s : ℕ) (k z : ℤ) → share a s (k *ℤ z) ≡ k *ℤ share a s z
-share-mul a s k z = go (eqb a s)
-  where
-    go : (b : Bool) → cond b (k *ℤ z) (pos 0) ≡ k *ℤ cond b z (pos 0)
-    go true = refl
-    go false = sym (*ℤ-comm k (pos 0) ∙ zero-*ℤ k)
 
 level-seats : (k : ℕ) (ts : List Terminal) (s : ℕ) → level (seats k ts) s ≡ negℤ (pos k *ℤ due ts s)
 level-seats k [] s =

@@ -1,11 +1,10 @@
 -- Terminals whose currents sum to 0 are met by a star: everything goes through the first one's site.
 use mathlib.Core.Path.{_≡_, refl, ap, _∙_}
-use mathlib.Core.Bool.{Bool, true, false, cond}
+use mathlib.Core.Bool.{true}
 use mathlib.Core.List.{List, [], _∷_}
 use Prim.Native.Nat.{ℕ, suc, _*_, _≤_}
 use native.Mathlib.Omega.{arith}
 use borrow.Author.Differences.{ints}
-use lib.Dec.{eqb}
 use lib.IntN.{ℤ, pos, negsuc, _+ℤ_, _-ℤ_, _*ℤ_, zero-*ℤ, *ℤ-comm, pos-*ℤ-pos}
 use Rattle.ruler.specs.Meaning.{Meaning}
 use Rattle.wires.specs.declared.terminal.Terminal.{Terminal}
@@ -14,7 +13,8 @@ use Rattle.wires.specs.Sums.{sum}
 use Rattle.wires.specs.Wiring.{share, flow, net, due, Meets, Lies, Over, Seated, Met}
 use Rattle.wires.specs.Duality.{Settled}
 use Rattle.wires.proofs.Integers.{mul-add, mul-sub, mul-neg, one-mul, mul-cancel}
-use Rattle.wires.proofs.Pairing.{share-neg, share-mul, pairing}
+use Rattle.wires.proofs.Pairing.{pairing}
+use Rattle.wires.proofs.Shares.{share-add, share-mul, share-neg, share-none}
 
 still-wires : (ws : List Wire) → sum (λ w. pos (w .current) *ℤ (pos 1 -ℤ pos 1)) ws ≡ pos 0
 still-wires [] = refl
@@ -65,20 +65,6 @@ flow-spoke k hub site s (negsuc n) =
     let q = ap (λ z. pos k *ℤ z) (share-neg hub s (pos (suc n))) ∙ mul-neg (pos k) (share hub s (pos (suc n))) in
     let f = mul-sub (pos k) (share site s (negsuc n)) (share hub s (negsuc n)) in
     omega (arith, ints)
-
-share-add : (a s : ℕ) (x y : ℤ) → share a s (x +ℤ y) ≡ share a s x +ℤ share a s y
-share-add a s x y = go (eqb a s)
-  where
-    go : (b : Bool) → cond b (x +ℤ y) (pos 0) ≡ cond b x (pos 0) +ℤ cond b y (pos 0)
-    go true = refl
-    go false = refl
-
-share-none : (a s : ℕ) → share a s (pos 0) ≡ pos 0
-share-none a s = go (eqb a s)
-  where
-    go : (b : Bool) → cond b (pos 0) (pos 0) ≡ pos 0
-    go true = refl
-    go false = refl
 
 net-star : (k hub : ℕ) (ts : List Terminal) (s : ℕ) → net (star k hub ts) s ≡ pos k *ℤ (due ts s -ℤ share hub s (sum (λ t. t .current) ts))
 net-star k hub [] s =
