@@ -20,7 +20,7 @@ use Rattle.wires.specs.Wiring.{area, lies, Meets, Lies, Over, Seated, Least, se
 use Rattle.wires.proofs.WeakDuality.{certified}
 use Rattle.wires.proofs.Completeness.{complete}
 use Rattle.audit.specs.declared.refusal.Refusal.the-variants.{MarkCount, WireSite, MarkOutOfRange, MarksApart, AreaDiffers}
-use Rattle.audit.specs.Audit.{no-wire, wire-at, row-at, mark-at, mark-fits, differ, too-far, strained, pins, marks-are-64, sites-are-known, marks-fit, is-met, marks-reach, area-is-value, audit-questions, audit-asked}
+use Rattle.audit.specs.Audit.{no-wire, wire-at, row-at, mark-at, mark-fits, differ, too-far, strained, pins, marks-are-64, sites-are-known, marks-fit, marks-reach, area-is-value, audit-questions, audit-asked}
 use Rattle.audit.specs.Law.{Upheld, Readable, Accepted, Law}
 use Rattle.audit.proofs.Meeting.{same-from-differ, differ-from-same, met-from-meets, meets-from-met}
 use Rattle.audit.proofs.Passing.{Passed, ask-passed, chain-passes, chain-passed, clear-passes, clear-passed, clear-absent, absent-clear}

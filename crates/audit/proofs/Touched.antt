@@ -7,7 +7,7 @@ use Prim.Native.Nat.{ℕ, _+_, _^_, _≤_, _<_}
 use native.Mathlib.Omega.{arith}
 use borrow.Author.Differences.{ints}
 use lib.Dec.{eqb, ltb}
-use lib.IntN.{ℤ, pos, _+ℤ_, _-ℤ_}
+use lib.IntN.{ℤ, pos}
 use lib.ListN.{length, getD, take}
 use Rattle.std.specs.shelf.Lists.{All}
 use Rattle.std.proofs.shelf.Elements.{all-more, all-weaker}
@@ -16,10 +16,10 @@ use Rattle.std.specs.declared.option.Option.{Option}
 use Rattle.std.specs.declared.option.Option.the-variants.{Some, None}
 use Rattle.wires.specs.declared.terminal.Terminal.{Terminal}
 use Rattle.wires.specs.declared.wire.Wire.{Wire}
-use Rattle.wires.specs.Wiring.{share, flow, net, due, seated}
-use Rattle.audit.specs.Audit.{lowest, differ, unmet}
+use Rattle.wires.specs.Wiring.{share, net, due, seated}
+use Rattle.audit.specs.Audit.{lowest, unmet}
 use Rattle.audit.specs.Search.{lowered, IsSite, Fails, Passed, OfRow, Looked}
-use Rattle.audit.proofs.Lowest.{Clear, lowest-none, lowest-found}
+use Rattle.audit.proofs.Lowest.{lowest-none, lowest-found}
 
 -- one site more is looked at
 lowered-fails : (bad : ℕ → Bool) (found : Option ℕ) (site : ℕ) → Fails bad found → Fails bad (lowered bad found site)

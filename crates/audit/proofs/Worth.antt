@@ -9,7 +9,7 @@ use native.Mathlib.Omega.{arith}
 use borrow.Author.Differences.{ints}
 use lib.Dec.{leb}
 use lib.IntN.{ℤ, pos, negsuc, negℤ, _+ℤ_, _*ℤ_, pos-*ℤ-pos}
-use lib.ListN.{length, getD, take}
+use lib.ListN.{length, take}
 use lib.Signed.{_≤ℤ_}
 use mir.Syntax.{w64}
 use mir.Val.{SFits, ofZ, toZ}

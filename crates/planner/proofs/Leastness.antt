@@ -20,7 +20,7 @@ use Rattle.wires.specs.Sums.{sum}
 use Rattle.wires.specs.Marks.{terminals, worth, value}
 use Rattle.wires.specs.Wiring.{share, net, due, area, Meets, Lies, Over, Seated, Least, seated, row-adds}
 use Rattle.wires.proofs.Integers.{one-mul, mul-neg, neg-mul, mul-sub}
-use Rattle.wires.proofs.Pairing.{share-mul}
+use Rattle.wires.proofs.Shares.{share-mul}
 use Rattle.wires.proofs.WeakDuality.{certified}
 use Rattle.audit.specs.declared.refusal.Refusal.the-variants.{MarkCount, AreaDiffers}
 use Rattle.audit.specs.Audit.{row-at, mark-at, pins, differ, marks-are-64, area-is-value, audit-questions, audit-asked}

@@ -6,8 +6,8 @@ use Prim.Native.Nat.{ℕ, zero, suc, min, _+_, _≤_, _<_}
 use native.Mathlib.Numerals.{add-one}
 use native.Mathlib.Omega.{arith}
 use borrow.Author.Differences.{ints}
-use lib.Dec.{leb, eqb}
-use lib.IntN.{ℤ, pos, negsuc, _+ℤ_, _-ℤ_}
+use lib.Dec.{leb}
+use lib.IntN.{ℤ, pos, negsuc, _-ℤ_}
 use lib.ListN.{length, take}
 use Rattle.std.proofs.shelf.Lists.{take-all}
 use Rattle.std.proofs.shelf.Tests.{and-from, and-parts, leb-true, le-leb, eq-eqb}
@@ -25,7 +25,7 @@ use Rattle.transport.specs.Transport.{amounts-fit, at, balanced, cost-of, costs
 use Rattle.transport.proofs.Every.{each-all}
 use Rattle.transport.proofs.Sums.{sum-same}
 use Rattle.planner.specs.declared.ends.Ends.{Ends}
-use Rattle.planner.specs.Costs.{Amounts, CaseOf, Costs, cost-between, or-none}
+use Rattle.planner.specs.Costs.{Amounts, CaseOf, cost-between, or-none}
 use Rattle.planner.specs.Ends.{Gathered, amount, amount-at, given, taken}
 
 -- an allowed current gives or takes at most 1,000,000

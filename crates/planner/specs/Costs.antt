@@ -10,7 +10,7 @@ use Rattle.ruler.specs.Meaning.{Meaning, measured}
 use Rattle.wires.specs.declared.terminal.Terminal.{Terminal}
 use Rattle.audit.specs.Audit.{row-at}
 use Rattle.transport.specs.declared.case.Case.{Case}
-use Rattle.transport.specs.Transport.{at, cell, cost-of}
+use Rattle.transport.specs.Transport.{at, cell}
 use Rattle.planner.specs.declared.ends.Ends.{Ends}
 use Rattle.planner.specs.Ends.{amount-at}
 

@@ -1,5 +1,5 @@
 -- Upheld rows with a plan, or with none, are under the law.
-use mathlib.Core.Path.{_≡_, refl, ap, _∙_}
+use mathlib.Core.Path.{_≡_, refl, ap}
 use mathlib.Core.Bool.{Bool, true, false, cond, not}
 use mathlib.Core.List.{List}
 use Prim.Native.Nat.{ℕ, _≤_}
@@ -12,7 +12,6 @@ use Rattle.wires.specs.declared.terminal.Terminal.{Terminal}
 use Rattle.wires.specs.Sums.{sum}
 use Rattle.wires.specs.Wiring.{Met, seated}
 use Rattle.wires.proofs.Star.{settled}
-use Rattle.audit.specs.declared.refusal.Refusal.{Refusal}
 use Rattle.audit.specs.declared.refusal.Refusal.the-variants.{Unbalanced}
 use Rattle.audit.specs.Audit.{differ}
 use Rattle.audit.specs.Law.{Upheld}

@@ -1,5 +1,5 @@
 // What is settled so far: the marks, and the flow with what is left.
-ghost use Prim.Native.Nat.{_<_, _≤_};
+ghost use Prim.Native.Nat.{_≤_};
 ghost use Rattle.transport.specs.Solver.{Neediest};
 
 mod tree;

@@ -13,7 +13,7 @@ use Rattle.ruler.specs.Meaning.{Meaning, Metric}
 use Rattle.wires.specs.declared.wire.Wire.{Wire}
 use Rattle.wires.specs.Sums.{sum}
 use Rattle.wires.specs.Wiring.{Meets, Over, Seated, area}
-use Rattle.wires.specs.Marks.{Pin, terminals, Reaches, Feasible, value}
+use Rattle.wires.specs.Marks.{Pin, terminals, Reaches, value}
 use Rattle.wires.specs.Duality.{Bounded, Certified}
 use Rattle.wires.proofs.Integers.{mul-neg, neg-mul, mul-mono}
 use Rattle.wires.proofs.Pairing.{pairing}

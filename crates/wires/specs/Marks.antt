@@ -1,5 +1,5 @@
 -- Marks, one a terminal: the numbers by which a reader confirms a least list.
-use mathlib.Core.List.{List, [], _∷_, map}
+use mathlib.Core.List.{List, map}
 use Prim.Native.Nat.{ℕ, _+_, _≤_}
 use lib.IntN.{ℤ, pos, negℤ, _*ℤ_}
 use Rattle.std.specs.shelf.Lists.{All}

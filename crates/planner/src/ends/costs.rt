@@ -1,6 +1,6 @@
 // The transport case of a net: its sources and sinks, and the lengths between them as costs.
 ghost use mathlib.Core.Path.{_≡_};
-ghost use Prim.Native.Nat.{_≤_, _<_};
+ghost use Prim.Native.Nat.{_<_};
 ghost use Rattle.audit.specs.Audit.{row-at};
 ghost use Rattle.transport.specs.Transport.{at};
 ghost use Rattle.planner.specs.Costs.{Amounts, CaseOf, CostRow, Costs, cost-between};

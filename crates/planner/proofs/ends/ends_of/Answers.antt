@@ -1,9 +1,9 @@
-use mathlib.Core.Path.{_≡_, sym, subst, _∙_}
-use Prim.Native.Nat.{ℕ, suc, _+_, _≤_}
+use mathlib.Core.Path.{_≡_, sym, subst}
+use Prim.Native.Nat.{ℕ, _+_}
 use native.Mathlib.Numerals.{add-one}
 use native.Mathlib.Omega.{arith}
 use Rattle.planner.specs.declared.ends.Ends.{Ends}
-use Rattle.planner.specs.Ends.{Gathered, amount-at}
+use Rattle.planner.specs.Ends.{Gathered}
 use Rattle.planner.proofs.Gathering.{gathered-none, gathered-count, gathered-skip, gathered-push}
 use Rattle.planner.proofs.ends.ends_of.Needs as need
 use Rattle.planner.proofs.ends.ends_of.Needs.{then-amount-of-gt0, else-amount-of-gt0}
