@@ -4,6 +4,7 @@ use wires::wire::Wire;
 
 mod audits;
 mod edits;
+mod hard;
 mod plans;
 
 fn edited(result: Result<(), Refusal>) -> (u32, u32) {
