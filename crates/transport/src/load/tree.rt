@@ -17,11 +17,11 @@ struct Tree {
     root: usize,
     // Of each source: how far it is from being tight with a reached sink, and with which one it is least far.
     slack: [u32; 64],
-    toward: [usize; 64],
+    toward: [u32; 64],
     // u32::MAX for a reached source, so that no slack passes it, and 0 for the others.
     closed: [u32; 64],
     // Of each sink: the round in which it was reached, from 1 on, or 0.
-    round: [usize; 64],
+    round: [u32; 64],
     // Of each reached sink but the root: the source that serves it, through which it was reached.
     parent: [usize; 64],
     // How much can be sent anew to a reached sink.
@@ -29,7 +29,7 @@ struct Tree {
 }
 
 // Takes a reached sink into the slacks.
-fn relax(case: &Case, marks: &Marks, slack: &mut [u32; 64], toward: &mut [usize; 64], sink: usize)
+fn relax(case: &Case, marks: &Marks, slack: &mut [u32; 64], toward: &mut [u32; 64], sink: usize)
     requires { ⌜ Limited (now case) ⌝ ∗ ⌜ Marked (now case) (now marks) ⌝ ∗ ⌜ sink < now case .sinks ⌝ }
     ensures { λ _. ⌜ Relaxed (now (case .entry)) (now (marks .entry)) sink (now (slack .entry)) (now (toward .entry)) (now (slack .exit)) (now (toward .exit)) ⌝ }
 {
@@ -39,7 +39,7 @@ fn relax(case: &Case, marks: &Marks, slack: &mut [u32; 64], toward: &mut [usize;
         let was = slack[i];
         let there = toward[i];
         slack[i] = if gap < was { gap } else { was };
-        toward[i] = if gap < was { sink } else { there };
+        toward[i] = if gap < was { sink as u32 } else { there };
     }
 }
 
@@ -79,7 +79,7 @@ fn raise_sources(
 }
 
 // Raises the marks of the reached sinks.
-fn raise_sinks(sink: &mut [u32; 64], round: &[usize; 64], count: usize, by: u32)
+fn raise_sinks(sink: &mut [u32; 64], round: &[u32; 64], count: usize, by: u32)
     requires { ⌜ count ≤ 64 ⌝ ∗ ⌜ ((j : ℕ) → j < count → 0 < at (now round) j → at (now sink) j + by ≤ 4000000) ⌝ }
     ensures { λ _. ⌜ RaisedSinks (now (round .entry)) count by (now (sink .entry)) (now (sink .exit)) ⌝ }
 {
@@ -99,7 +99,7 @@ impl Tree {
         ensures root { λ r. ⌜ r .root ≡ root ⌝ }
     {
         let mut slack = [u32::MAX; 64];
-        let mut toward = [root; 64];
+        let mut toward = [root as u32; 64];
         relax(case, marks, &mut slack, &mut toward, root);
         let mut round = [0; 64];
         round[root] = 1;
@@ -124,7 +124,7 @@ impl Tree {
         load: &Load,
         source: usize,
         sink: usize,
-        round: usize,
+        round: u32,
     )
         requires known { ⌜ Limited (now case) ⌝ ∗ ⌜ Marked (now case) (now marks) ⌝ ∗ ⌜ Grown (now case) (now marks) (now load) (now self) ⌝ }
         requires inside { ⌜ source < now case .sources ⌝ ∗ ⌜ sink < now case .sinks ⌝ }
@@ -132,7 +132,7 @@ impl Tree {
         requires anew { ⌜ at (now self .round) sink ≡ 0 ⌝ ∗ ⌜ at (now self .round) (at (now self .toward) source) < round ⌝ }
         ensures { λ _. ⌜ Joined (now (case .entry)) (now (marks .entry)) (now (load .entry)) source sink round (now (self .entry)) (now (self .exit)) ⌝ }
     {
-        let ahead = self.toward[source];
+        let ahead = self.toward[source] as usize;
         self.room[sink] = self.room[ahead].min(load.flow[64 * source + sink]);
         self.round[sink] = round;
         self.parent[sink] = source;
@@ -140,7 +140,7 @@ impl Tree {
     }
 
     // Takes in a source that has nothing left, with every sink that it serves.
-    fn absorb(&mut self, case: &Case, marks: &Marks, load: &Load, source: usize, round: usize)
+    fn absorb(&mut self, case: &Case, marks: &Marks, load: &Load, source: usize, round: u32)
         requires known { ⌜ Limited (now case) ⌝ ∗ ⌜ Marked (now case) (now marks) ⌝ ∗ ⌜ Grown (now case) (now marks) (now load) (now self) ⌝ }
         requires inside { ⌜ source < now case .sources ⌝ }
         requires still { ⌜ at (now self .closed) source ≡ 0 ⌝ ∗ ⌜ at (now self .slack) source ≡ 0 ⌝ ∗ ⌜ at (now load .stock) source ≡ 0 ⌝ }
@@ -177,7 +177,7 @@ impl Tree {
                 return source;
             }
             // The root was reached in round 1.
-            self.absorb(case, marks, load, source, n + 2);
+            self.absorb(case, marks, load, source, n as u32 + 2);
         }
         // Some source has something left, and such a one is never closed.
         unreachable()

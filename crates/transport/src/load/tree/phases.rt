@@ -22,7 +22,7 @@ impl Tree {
         ensures { λ _. ⌜ Rerouted (now (case .entry)) (now (self .entry)) source amount (now (flow .entry)) (now (flow .exit)) ⌝ }
     {
         'back: loop {
-            let sink = self.toward[source];
+            let sink = self.toward[source] as usize;
             flow[64 * source + sink] += amount;
             if sink == self.root {
                 return;
@@ -40,7 +40,7 @@ impl Tree {
         requires root { ⌜ now self .root < now case .sinks ⌝ ∗ ⌜ at (now self .room) (now self .root) ≡ at (now load .want) (now self .root) ⌝ }
         ensures { λ _. ⌜ Sent (now (case .entry)) (now (self .entry)) (now (load .entry)) (now (load .exit)) ⌝ }
     {
-        let ahead = self.toward[source];
+        let ahead = self.toward[source] as usize;
         let amount = load.stock[source].min(self.room[ahead]);
         self.reroute(case, &mut load.flow, source, amount);
         load.stock[source] -= amount;
