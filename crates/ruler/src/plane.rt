@@ -16,7 +16,7 @@ impl Plane {
     }
 }
 
-fn distance(a: u32, b: u32) -> u32
+pub(crate) fn distance(a: u32, b: u32) -> u32
     ensures { λ r. ⌜ r ≡ apart a b ⌝ }
 {
     if a < b { b - a } else { a - b }

@@ -1,0 +1,4 @@
+pub mod Derating
+pub mod Relaxing
+pub mod Stacked
+pub mod Ways
