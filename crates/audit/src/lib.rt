@@ -1,3 +1,5 @@
 // The terminals of a net by id, and the audit of filed plans against them.
+#![tactic(auto)]
+
 pub mod refusal;
 pub mod table;

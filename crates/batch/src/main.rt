@@ -1,4 +1,6 @@
 // Plans nets from standard input and prints a line for each: its area, or why it was refused.
+#![tactic(auto)]
+
 use audit::refusal::Refusal;
 use ruler::plane::Plane;
 use sheet::sheet::Sheet;

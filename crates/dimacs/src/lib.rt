@@ -1,4 +1,6 @@
 // Nets from files: what a file says, tested line by line, and the loads of maps and sheets.
+#![tactic(auto)]
+
 pub mod document;
 pub mod draft;
 pub mod load;

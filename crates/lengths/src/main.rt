@@ -1,4 +1,6 @@
 // Makes maps from standard input and prints the lengths of each: a line for every site, with its length to every site.
+#![tactic(auto)]
+
 use ruler::map::{Map, Step, charted};
 use ruler::ruler::Ruler;
 use std::alloc::{AllocError, AllocFailed, Global};

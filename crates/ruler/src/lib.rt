@@ -1,4 +1,6 @@
 // Rulers: which sites are known, and how long a wire from one to another is.
+#![tactic(auto)]
+
 pub mod derated;
 pub mod factor;
 pub mod map;

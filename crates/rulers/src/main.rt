@@ -1,4 +1,6 @@
 // One net planned over each ruler, through the same calls.
+#![tactic(auto)]
+
 use ruler::derated::Derated;
 use ruler::factor::Factor;
 use ruler::map::Map;

@@ -1,4 +1,6 @@
 // Least-cost transport from sources to sinks on plain numbers.
+#![tactic(auto)]
+
 pub mod case;
 mod load;
 pub mod plan;

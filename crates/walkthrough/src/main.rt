@@ -1,4 +1,6 @@
 // One net from its first pin to its last plan, every call made by `perform` and printed with its answer.
+#![tactic(auto)]
+
 use ruler::plane::Plane;
 use sheet::call::{Answer, Call};
 use sheet::run::{follow, perform};

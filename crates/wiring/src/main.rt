@@ -1,5 +1,7 @@
 // Reads a file in the DIMACS minimum-cost flow layout from standard input, and prints the wires of least metal, or why it
 // was refused.
+#![tactic(auto)]
+
 use listing::answer;
 use std::io;
 use std::io::{Read, Write};
