@@ -8,8 +8,8 @@ many : (f n : ℕ) → 1 ≤ f → n ≤ f * n
 many f n h = omega (arith, mul-le-mul_right n h)
 
 -- src/factor/check.rt:24:14
-pub overflow-mul-self : goal.overflow-mul-self
-overflow-mul-self c =
+pub overflow_mul-self : goal.overflow_mul-self
+overflow_mul-self c =
     let h : c.args.self.now.times * c.args.length ≤ 64000000 = few _ _ c.args.self.now.small (omega arith) in
     search rules
 

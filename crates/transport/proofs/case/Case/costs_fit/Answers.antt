@@ -8,8 +8,8 @@ returns c =
     let case = c.args.self.now in
     sym (each_all (λ i. each (λ j. leb (cost_of case i j) 4000000) case.sinks) case.sources (λ k l. c.loop-i.invariant k (omega arith)))
 
-pub returns-then-not-costs-fit-from : goal.returns-then-not-costs-fit-from
-returns-then-not-costs-fit-from c =
+pub returns-then-not-costs_fit_from : goal.returns-then-not-costs_fit_from
+returns-then-not-costs_fit_from c =
     let case = c.args.self.now in
     sym (each_fails (λ i. each (λ j. leb (cost_of case i j) 4000000) case.sinks) case.sources c.loop-i.i (omega arith) (search rules))
 

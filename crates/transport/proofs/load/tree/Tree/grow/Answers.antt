@@ -22,14 +22,14 @@ never case marks load tree limited marked tied grown stocked all =
     let still = spare_still case marks load limited marked tied tree grown spare.0 spare.1 spare.2 in
     omega (arith, sum_open (at tree.closed) case.sources spare.0 spare.1 still (λ k l. elim (grown.flag k l) [ inl e ↦ omega (arith, e) | inr e ↦ omega (arith, e) ]))
 
-pub raise-sources-requires : goal.raise-sources-requires
-raise-sources-requires c =
+pub raise_sources-requires : goal.raise_sources-requires
+raise_sources-requires c =
     let inv = c.loop-n.invariant in
     let rise = can_rise c.args.case.now c.loop-n.marks c.args.load.now c.loop-n.self c.nearest-source.result c.requires.known.0 inv.0 inv.1 inv.2 c.requires.stocked c.nearest-source.ensures in
     (omega arith, (rise.low, rise.sources))
 
-pub raise-sinks-requires : goal.raise-sinks-requires
-raise-sinks-requires c =
+pub raise_sinks-requires : goal.raise_sinks-requires
+raise_sinks-requires c =
     let inv = c.loop-n.invariant in
     let rise = can_rise c.args.case.now c.loop-n.marks c.args.load.now c.loop-n.self c.nearest-source.result c.requires.known.0 inv.0 inv.1 inv.2 c.requires.stocked c.nearest-source.ensures in
     (omega arith, rise.sinks)
@@ -39,7 +39,7 @@ returns-then-load-source-gt0 c =
     let inv = c.loop-n.invariant in
     let tree = c.loop-n.self in
     let rise = can_rise c.args.case.now c.loop-n.marks c.args.load.now c.loop-n.self c.nearest-source.result c.requires.known.0 inv.0 inv.1 inv.2 c.requires.stocked c.nearest-source.ensures in
-    let after = raised c.args.case.now c.loop-n.marks c.args.load.now c.requires.known.0 inv.0 inv.1 c.nearest-source.result tree.root tree.slack tree.toward tree.closed tree.round tree.parent tree.room c.raise-sources.new.source c.raise-sources.new.slack c.raise-sinks.new.sink inv.2 rise c.raise-sources.ensures c.raise-sinks.ensures in
+    let after = raised c.args.case.now c.loop-n.marks c.args.load.now c.requires.known.0 inv.0 inv.1 c.nearest-source.result tree.root tree.slack tree.toward tree.closed tree.round tree.parent tree.room c.raise_sources.new.source c.raise_sources.new.slack c.raise_sinks.new.sink inv.2 rise c.raise_sources.ensures c.raise_sinks.ensures in
     record { marked = after.0; tied = after.1; grown = after.2; rooted = inv.5; inside = rise.inside; stocked = c.if-load-source-gt0.true; slack = after.3 }
 
 pub absorb-requires : goal.absorb-requires
@@ -47,7 +47,7 @@ absorb-requires c =
     let inv = c.loop-n.invariant in
     let tree = c.loop-n.self in
     let rise = can_rise c.args.case.now c.loop-n.marks c.args.load.now c.loop-n.self c.nearest-source.result c.requires.known.0 inv.0 inv.1 inv.2 c.requires.stocked c.nearest-source.ensures in
-    let after = raised c.args.case.now c.loop-n.marks c.args.load.now c.requires.known.0 inv.0 inv.1 c.nearest-source.result tree.root tree.slack tree.toward tree.closed tree.round tree.parent tree.room c.raise-sources.new.source c.raise-sources.new.slack c.raise-sinks.new.sink inv.2 rise c.raise-sources.ensures c.raise-sinks.ensures in
+    let after = raised c.args.case.now c.loop-n.marks c.args.load.now c.requires.known.0 inv.0 inv.1 c.nearest-source.result tree.root tree.slack tree.toward tree.closed tree.round tree.parent tree.room c.raise_sources.new.source c.raise_sources.new.slack c.raise_sinks.new.sink inv.2 rise c.raise_sources.ensures c.raise_sinks.ensures in
     record { known = (c.requires.known.0, (after.0, after.2)); inside = rise.inside; still = (rise.still, (after.3, omega arith)); early = λ j l. omega (arith, inv.3 j l) }
 
 pub loop-n-preserved : goal.loop-n-preserved
@@ -55,7 +55,7 @@ loop-n-preserved c =
     let inv = c.loop-n.invariant in
     let tree = c.loop-n.self in
     let rise = can_rise c.args.case.now c.loop-n.marks c.args.load.now c.loop-n.self c.nearest-source.result c.requires.known.0 inv.0 inv.1 inv.2 c.requires.stocked c.nearest-source.ensures in
-    let after = raised c.args.case.now c.loop-n.marks c.args.load.now c.requires.known.0 inv.0 inv.1 c.nearest-source.result tree.root tree.slack tree.toward tree.closed tree.round tree.parent tree.room c.raise-sources.new.source c.raise-sources.new.slack c.raise-sinks.new.sink inv.2 rise c.raise-sources.ensures c.raise-sinks.ensures in
+    let after = raised c.args.case.now c.loop-n.marks c.args.load.now c.requires.known.0 inv.0 inv.1 c.nearest-source.result tree.root tree.slack tree.toward tree.closed tree.round tree.parent tree.room c.raise_sources.new.source c.raise_sources.new.slack c.raise_sinks.new.sink inv.2 rise c.raise_sources.ensures c.raise_sinks.ensures in
     let took = c.absorb.ensures in
     (after.0, after.1, took.grown, λ j l. omega (arith, took.early j l), omega (arith, took.closed, inv.4), took.root ∙ inv.5)
 

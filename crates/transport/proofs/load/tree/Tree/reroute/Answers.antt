@@ -4,8 +4,8 @@ use Rattle.transport.proofs.Writes.{put_set}
 use Rattle.transport.proofs.Routes.{rerouting_more, rerouted, gives_little}
 use Rattle.transport.proofs.load.tree.Tree.reroute.Goals as goal
 
-pub overflow-add-flow-in-back : goal.overflow-add-flow-in-back
-overflow-add-flow-in-back c =
+pub overflow_add-flow-in-back : goal.overflow_add-flow-in-back
+overflow_add-flow-in-back c =
     let little = gives_little c.args.case.now c.args.self.now c.args.amount c.args.source c.args.flow.now c.requires.known.0 c.requires.known.1 c.back.source c.back.flow c.back.invariant c.requires.small.0 c.requires.small.1 in
     omega arith
 

@@ -12,4 +12,4 @@ returns c =
     let load = c.loop-root.load in
     let marks = c.loop-root.marks in
     let inv = c.loop-root.invariant in
-    optimal c.args.case.now load.flow load.stock load.want marks.source marks.sink c.loop-root.phases inv.0 inv.1 inv.2 c.in-default.ensures
+    optimal c.args.case.now load.flow load.stock load.want marks.source marks.sink c.loop-root.phases inv.0 inv.1 inv.2 c.in_default.ensures
