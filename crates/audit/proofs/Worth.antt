@@ -1,7 +1,7 @@
 -- The worth of a marked row, and of the rows so far.
 use Rattle.std.proofs.Common.{◌≡◌, ℕ, zero, suc, ◌+◌, ◌*◌, ◌^◌, ◌<◌, ◌≤◌, true, leb, List, [], ◌∷◌, length, take, ℤ, pos, negsuc, ◌+ℤ◌, ◌*ℤ◌, neg_ℤ, ◌≤ℤ◌, Some, None, Option, ap, ◌∙◌, mul-le-mul, add-one, arith, w64, SFits, to_z, of_z}
 use borrow.Author.Differences.{ints}
-use lib.IntN.{pos_*ℤ-pos}
+use lib.IntN.{pos-*ℤ-pos}
 use Rattle.std.proofs.lemmas.Bool.{and_parts, leb-true}
 use Rattle.wires.specs.declared.terminal.Terminal.{Terminal}
 use Rattle.wires.specs.Marks.{value, worth}
@@ -15,12 +15,12 @@ pub worth_bounds : (z : ℤ) (mark : ℕ) → allowed z ≡ true → mark < 2 ^ 
 worth_bounds (pos n) mark ok short =
     let l = leb-true n 1000000 (and_parts (leb 1 n) (leb n 1000000) ok).1 in
     let p : n * mark ≤ 1000000 * 4294967296 = mul-le-mul {n₂ = 1000000} {m₂ = 4294967296} l (omega arith) in
-    let e = neg_mul (pos n) (pos mark) ∙ ap neg_ℤ (pos_*ℤ-pos n mark) in
+    let e = neg_mul (pos n) (pos mark) ∙ ap neg_ℤ (pos-*ℤ-pos n mark) in
     omega (arith, ints)
 worth_bounds (negsuc n) mark ok short =
     let l = leb-true n 999999 ok in
     let p : suc n * mark ≤ 1000000 * 4294967296 = mul-le-mul {n₂ = 1000000} {m₂ = 4294967296} (omega arith) (omega arith) in
-    let e = pos_*ℤ-pos (suc n) mark in
+    let e = pos-*ℤ-pos (suc n) mark in
     omega (arith, ints)
 
 -- so it fits 64 bits

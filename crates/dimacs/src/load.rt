@@ -48,18 +48,18 @@ pub fn load_map(map: &mut Map, file: &[u8]) -> Result<(), Refusal>
 
 // A node is seated with its id as its site; the file's test saw to it that it is not refused.
 fn seat_node<R: Ruler>(sheet: &mut Sheet<R>, node: &Node)
-    ensures ledger { ledger_of sheet.new.net ≡ fed (meaning sheet.old.ruler) (ledger_of sheet.old.net) (seat_call node.now) }
-    ensures plan { sheet.new.net.plan ≡ unless (asked (meaning sheet.old.ruler) (ledger_of sheet.old.net) (seat_call node.now)) sheet.old.net.plan None }
+    ensures ledger { ledger_of sheet.new.net ≡ fed (R.meaning sheet.old.ruler) (ledger_of sheet.old.net) (seat_call node.now) }
+    ensures plan { sheet.new.net.plan ≡ unless (asked (R.meaning sheet.old.ruler) (ledger_of sheet.old.net) (seat_call node.now)) sheet.old.net.plan None }
     ensures same { sheet.new.ruler ≡ sheet.old.ruler }
-    ensures law { Lawful (meaning sheet.old.ruler) sheet.old.net → Lawful (meaning sheet.new.ruler) sheet.new.net }
+    ensures law { Lawful (R.meaning sheet.old.ruler) sheet.old.net → Lawful (R.meaning sheet.new.ruler) sheet.new.net }
 {
     let _ = sheet.seat(node.id, node.id, node.flow);
 }
 
 fn seat_nodes<R: Ruler>(sheet: &mut Sheet<R>, nodes: &[Node])
-    ensures after { Seated (meaning sheet.old.ruler) sheet.old.net sheet.new.net (seats_of nodes.now) }
+    ensures after { Seated (R.meaning sheet.old.ruler) sheet.old.net sheet.new.net (seats_of nodes.now) }
     ensures same { sheet.new.ruler ≡ sheet.old.ruler }
-    ensures law { Lawful (meaning sheet.old.ruler) sheet.old.net → Lawful (meaning sheet.new.ruler) sheet.new.net }
+    ensures law { Lawful (R.meaning sheet.old.ruler) sheet.old.net → Lawful (R.meaning sheet.new.ruler) sheet.new.net }
 {
     for i in 0..nodes.len() {
         seat_node(sheet, &nodes[i]);
@@ -68,11 +68,11 @@ fn seat_nodes<R: Ruler>(sheet: &mut Sheet<R>, nodes: &[Node])
 
 // Fills a sheet without terminals with those of a file.
 pub fn load_sheet<R: Ruler>(sheet: &mut Sheet<R>, file: &[u8]) -> Result<(), Refusal>
-    ensures answer { result ≡ done (sheet_scanned (meaning sheet.old.ruler) sheet.old.net.table.rows file.now) }
-    ensures after { NetAfter (meaning sheet.old.ruler) (sheet_scanned (meaning sheet.old.ruler) sheet.old.net.table.rows file.now) sheet.old.net sheet.new.net }
-    ensures document { LoadsSheet (meaning sheet.old.ruler) file.now result sheet.old.net sheet.new.net }
+    ensures answer { result ≡ done (sheet_scanned (R.meaning sheet.old.ruler) sheet.old.net.table.rows file.now) }
+    ensures after { NetAfter (R.meaning sheet.old.ruler) (sheet_scanned (R.meaning sheet.old.ruler) sheet.old.net.table.rows file.now) sheet.old.net sheet.new.net }
+    ensures document { LoadsSheet (R.meaning sheet.old.ruler) file.now result sheet.old.net sheet.new.net }
     ensures same { sheet.new.ruler ≡ sheet.old.ruler }
-    ensures law { Lawful (meaning sheet.old.ruler) sheet.old.net → Lawful (meaning sheet.new.ruler) sheet.new.net }
+    ensures law { Lawful (R.meaning sheet.old.ruler) sheet.old.net → Lawful (R.meaning sheet.new.ruler) sheet.new.net }
 {
     if !sheet.is_bare() {
         return Err(Refusal {

@@ -1,7 +1,7 @@
 -- Sums over planned wires are sums over rows: a wire's current counts at the one row where it leaves or arrives.
 use Rattle.std.proofs.Common.{◌≡◌, ℕ, zero, suc, ◌+◌, ◌-◌, ◌<◌, ◌≤◌, cond, eqb, ◌⊎◌, List, [], ◌∷◌, length, take, ℤ, pos, ◌+ℤ◌, ◌-ℤ◌, ◌*ℤ◌, None, Option, sym, refl, ap, ◌∙◌, inl, inr, add-one, arith}
 use borrow.Author.Differences.{ints}
-use lib.IntN.{zero_*ℤ}
+use lib.IntN.{zero-*ℤ}
 use Rattle.std.specs.List.{AllByRecursion as All}
 use Rattle.std.proofs.lemmas.List.{take_all}
 use Rattle.std.proofs.lemmas.Bool.{eq-eqb, ne_eqb, cases_lt}
@@ -41,7 +41,7 @@ module _ (w : ℕ → ℤ) (id c : ℕ) where
   not_yet zero h = refl
   not_yet (suc n) h =
       let ih = not_yet n (omega arith) in
-      let e = ap (λ b. pos (cond b c 0) *ℤ w n) (ne_eqb id (n + 1) (λ e. omega arith)) ∙ zero_*ℤ (w n) in
+      let e = ap (λ b. pos (cond b c 0) *ℤ w n) (ne_eqb id (n + 1) (λ e. omega arith)) ∙ zero-*ℤ (w n) in
       omega (arith, ints)
 
   since : (n : ℕ) → 1 ≤ id → id ≤ n → sum_to (λ i. pos (cond (eqb id (i + 1)) c 0) *ℤ w i) n ≡ pos c *ℤ w (id - 1)
@@ -56,7 +56,7 @@ module _ (w : ℕ → ℤ) (id c : ℕ) where
           omega (arith, ints)
       go (inr h) ih =
           let all = ih h in
-          let e = ap (λ b. pos (cond b c 0) *ℤ w n) (ne_eqb id (n + 1) (λ e. omega arith)) ∙ zero_*ℤ (w n) in
+          let e = ap (λ b. pos (cond b c 0) *ℤ w n) (ne_eqb id (n + 1) (λ e. omega arith)) ∙ zero-*ℤ (w n) in
           omega (arith, ints)
 
 sum_to_add : (f g : ℕ → ℕ) (w : ℕ → ℤ) (n : ℕ) → sum_to (λ i. pos (f i + g i) *ℤ w i) n ≡ sum_to (λ i. pos (f i) *ℤ w i) n +ℤ sum_to (λ i. pos (g i) *ℤ w i) n
@@ -70,7 +70,7 @@ sum_to_none : (w : ℕ → ℤ) (n : ℕ) → sum_to (λ i. pos 0 *ℤ w i) n �
 sum_to_none w zero = refl
 sum_to_none w (suc n) =
     let ih = sum_to_none w n in
-    let e = zero_*ℤ (w n) in
+    let e = zero-*ℤ (w n) in
     omega (arith, ints)
 
 -- currents weighed by the row at one end, summed over the wires and over the rows

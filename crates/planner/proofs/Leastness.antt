@@ -1,7 +1,7 @@
 -- A plan's wires are least, and its marks make audit accept every least list.
 use Rattle.std.proofs.Common.{◌≡◌, ℕ, ◌+◌, ◌-◌, true, not, eqb, List, [], ◌∷◌, length, ℤ, pos, ◌-ℤ◌, ◌*ℤ◌, neg_ℤ, Some, None, Option, sym, refl, ap, ◌∙◌, subst, arith}
 use borrow.Author.Differences.{ints}
-use lib.IntN.{*ℤ_comm, pos_*ℤ-pos}
+use lib.IntN.{*ℤ_comm, pos-*ℤ-pos}
 use Rattle.std.specs.List.{AllByRecursion as All}
 use Rattle.std.proofs.ByRecursion.{All-map, All-weaker}
 use Rattle.std.proofs.lemmas.Bool.{eq-eqb, not_from_false, cond-true}
@@ -59,7 +59,7 @@ area_laid m rows marks (l ∷ ls) tight =
     let d = m.span (site_of rows l.from) (site_of rows l.to) in
     let rise = tight.0 in
     let e : neg_ℤ (pos (mark_at marks (l.from - 1))) -ℤ neg_ℤ (pos (mark_at marks (l.to - 1))) ≡ pos d = omega (arith, ints) in
-    let f = ap (λ z. pos l.current *ℤ z) e ∙ pos_*ℤ-pos l.current d in
+    let f = ap (λ z. pos l.current *ℤ z) e ∙ pos-*ℤ-pos l.current d in
     omega (arith, ints)
 
 value_laid : (rows : List (Option Terminal)) (marks : List ℕ) → length marks ≡ length rows → value (pins rows marks) ≡ sum_to (λ i. row_adds (λ t. t.current *ℤ neg_ℤ (pos (mark_at marks i))) (row_at rows i)) (length rows)

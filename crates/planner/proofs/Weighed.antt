@@ -1,7 +1,7 @@
 -- In a plan every row sends its current, so what the wires carry can be weighed row by row.
 use Rattle.std.proofs.Common.{◌≡◌, ℕ, zero, suc, ◌+◌, ◌-◌, ◌<◌, ◌≤◌, ◌⊎◌, List, [], ◌∷◌, length, ℤ, pos, negsuc, ◌-ℤ◌, ◌*ℤ◌, ◌<ℤ◌, Some, None, Option, sym, refl, ap, ◌∙◌, inl, inr, arith}
 use borrow.Author.Differences.{ints}
-use lib.IntN.{zero_*ℤ}
+use lib.IntN.{zero-*ℤ}
 use Rattle.std.proofs.ByRecursion.{All-weaker}
 use Rattle.std.proofs.lemmas.List.{get_or_past}
 use Rattle.std.proofs.lemmas.Bool.{cases_lt}
@@ -89,7 +89,7 @@ module _ (m : Meaning) (rows : List (Option Terminal)) (p : Plan) (plan : Planne
 
       adds : (x : ℤ) (o : Option Terminal) → row_adds (λ t. t.current) o *ℤ x ≡ row_adds (λ t. t.current *ℤ x) o
       adds x (Some t) = refl
-      adds x None = zero_*ℤ x
+      adds x None = zero-*ℤ x
 
       at : (i : ℕ) → pos (sent (links_of p) (i + 1)) *ℤ w i -ℤ pos (received (links_of p) (i + 1)) *ℤ w i ≡ row_adds (λ t. t.current *ℤ w i) (row_at rows i)
       at i = sym (sub_mul (pos (sent (links_of p) (i + 1))) (pos (received (links_of p) (i + 1))) (w i)) ∙ ap (λ z. z *ℤ w i) (balanced i) ∙ adds (w i) (row_at rows i)

@@ -30,10 +30,10 @@ fn area_answer(res: Result<u64, Refusal>) -> Answer
 
 // Makes one call.
 pub fn perform<R: Ruler>(sheet: &mut Sheet<R>, call: &Call) -> Answer
-    ensures answer { result ≡ answered (meaning sheet.old.ruler) sheet.old.net call.now }
-    ensures after { ledger_of sheet.new.net ≡ fed (meaning sheet.old.ruler) (ledger_of sheet.old.net) call.now }
+    ensures answer { result ≡ answered (R.meaning sheet.old.ruler) sheet.old.net call.now }
+    ensures after { ledger_of sheet.new.net ≡ fed (R.meaning sheet.old.ruler) (ledger_of sheet.old.net) call.now }
     ensures same { sheet.new.ruler ≡ sheet.old.ruler }
-    ensures law { Lawful (meaning sheet.old.ruler) sheet.old.net → Lawful (meaning sheet.new.ruler) sheet.new.net }
+    ensures law { Lawful (R.meaning sheet.old.ruler) sheet.old.net → Lawful (R.meaning sheet.new.ruler) sheet.new.net }
 {
     match *call {
         Call::Seat { id, site, current } => edit_answer(sheet.seat(id, site, current)),
@@ -57,8 +57,8 @@ pub fn perform<R: Ruler>(sheet: &mut Sheet<R>, call: &Call) -> Answer
 // The sheet over a ruler after a run of calls.
 pub fn follow<R: Ruler>(ruler: R, calls: &[Call]) -> Sheet<R>
     ensures kept { result.ruler ≡ ruler }
-    ensures ledger { ledger_of result.net ≡ course (meaning ruler) opened calls.now }
-    ensures law { Lawful (meaning ruler) result.net }
+    ensures ledger { ledger_of result.net ≡ course (R.meaning ruler) opened calls.now }
+    ensures law { Lawful (R.meaning ruler) result.net }
 {
     let mut sheet = Sheet::open(ruler);
     for i in 0..calls.len() {

@@ -26,7 +26,7 @@ pub struct Sheet<R: Ruler> {
 // No terminals and no plan; the law holds of them over any ruler.
 fn empty_net<R: Ruler>(_ruler: &R) -> Net
     ensures ledger { ledger_of result ≡ opened }
-    ensures law { Lawful (meaning _ruler.now) result }
+    ensures law { Lawful (R.meaning _ruler.now) result }
 {
     Net {
         table: Table { rows: [None; 64] },
@@ -39,7 +39,7 @@ impl<R: Ruler> Sheet<R> {
     pub fn open(ruler: R) -> Sheet<R>
         ensures kept { result.ruler ≡ ruler }
         ensures ledger { ledger_of result.net ≡ opened }
-        ensures law { Lawful (meaning ruler) result.net }
+        ensures law { Lawful (R.meaning ruler) result.net }
     {
         let net = empty_net(&ruler);
         Sheet { ruler, net }
@@ -47,7 +47,7 @@ impl<R: Ruler> Sheet<R> {
 
     // Whether a filed list of wires uses the least metal, as its marks show; the answer is its area.
     pub fn audit(&self, wires: &[Wire], marks: &[u32]) -> Result<u64, Refusal>
-        ensures { result ≡ outcome (audit_asked (meaning self.now.ruler) self.now.net.table.rows wires.now marks.now) (area (meaning self.now.ruler) wires.now) }
+        ensures { result ≡ outcome (audit_asked (R.meaning self.now.ruler) self.now.net.table.rows wires.now marks.now) (area (R.meaning self.now.ruler) wires.now) }
     {
         self.net.table.audit(&self.ruler, wires, marks)
     }

@@ -1,13 +1,13 @@
 -- Changes of a list: rivals that also carry one unit from a site to another, and what that costs.
 use Rattle.std.proofs.Common.{◌≡◌, ℕ, ◌+◌, ◌-◌, ◌*◌, ◌<◌, Bool, true, false, cond, ◌&&◌, ◌||◌, eqb, ltb, ◌⊎◌, List, [], ◌∷◌, ◌++◌, ℤ, pos, ◌+ℤ◌, ◌-ℤ◌, ◌*ℤ◌, neg_ℤ, refl, ap, ◌∙◌, inl, inr, add-mul, arith}
 use borrow.Author.Differences.{ints}
-use lib.IntN.{zero_*ℤ}
+use lib.IntN.{zero-*ℤ}
 use Rattle.std.proofs.ByRecursion.{All-append}
 use Rattle.std.proofs.lemmas.Bool.{false≢true, and_parts, and_from, or_cases, or_left, or_right, eqb-true, eq-eqb, ltb-true, lt-ltb, cond_both}
 use Rattle.ruler.specs.Meaning.{Meaning}
 use Rattle.wires.specs.declared.wire.Wire.{Wire}
 use Rattle.wires.specs.Wiring.{share, flow, net, Lies, Over, metal, area}
-use Rattle.wires.proofs.Integers.{add-mul as add_mulℤ, one_mul}
+use Rattle.wires.proofs.Integers.{add_mul as add_mulℤ, one_mul}
 use Rattle.wires.proofs.Shares.{share_add}
 use Rattle.wires.proofs.Sums.{sum_append, total_append}
 
@@ -46,10 +46,10 @@ added m ws u v i j = record { folds = 0; rival = wire ∷ []; over = (record { l
     wire = record { start = u; end = v; current = 1 }
 
     moves : (s : ℕ) → net (wire ∷ []) s ≡ pos 0 *ℤ net ws s +ℤ (share u s (pos 1) -ℤ share v s (pos 1))
-    moves s = let e = zero_*ℤ (net ws s) in omega (arith, ints)
+    moves s = let e = zero-*ℤ (net ws s) in omega (arith, ints)
 
     costs : pos (area m (wire ∷ [])) ≡ pos 0 *ℤ pos (area m ws) +ℤ pos (m.span u v)
-    costs = let e = zero_*ℤ (pos (area m ws)) in omega (arith, ints)
+    costs = let e = zero-*ℤ (pos (area m ws)) in omega (arith, ints)
 
 -- whether a wire with some current runs from a to b
 abbrev runs : Wire → ℕ → ℕ → Bool

@@ -1,13 +1,13 @@
 -- Products of whole numbers, which `omega` takes as unknowns.
 use Rattle.std.proofs.Common.{◌≡◌, ℕ, suc, ◌*◌, ◌≤◌, ℤ, pos, negsuc, ◌+ℤ◌, ◌-ℤ◌, ◌*ℤ◌, neg_ℤ, ◌≤ℤ◌, sym, refl, ap, ◌∙◌, mul-le-mul_right, arith}
 use borrow.Author.Differences.{ints}
-use lib.IntN.{ℤ_ind, suc_ℤ_*ℤ, pred_ℤ_*ℤ, zero_*ℤ, *ℤ_comm, +ℤ_one, -ℤ_one, pos_*ℤ-pos}
+use lib.IntN.{ℤ_ind, suc_ℤ-*ℤ, pred_ℤ-*ℤ, zero-*ℤ, *ℤ_comm, +ℤ_one, -ℤ_one, pos-*ℤ-pos}
 
 next_mul : (a b : ℤ) → (a +ℤ pos 1) *ℤ b ≡ a *ℤ b +ℤ b
-next_mul a b = ap (λ z. z *ℤ b) (+ℤ_one a) ∙ suc_ℤ_*ℤ a b
+next_mul a b = ap (λ z. z *ℤ b) (+ℤ_one a) ∙ suc_ℤ-*ℤ a b
 
 last_mul : (a b : ℤ) → (a +ℤ neg_ℤ (pos 1)) *ℤ b ≡ a *ℤ b -ℤ b
-last_mul a b = ap (λ z. z *ℤ b) (-ℤ_one a) ∙ pred_ℤ_*ℤ a b
+last_mul a b = ap (λ z. z *ℤ b) (-ℤ_one a) ∙ pred_ℤ-*ℤ a b
 
 pub add_mul : (a b c : ℤ) → (a +ℤ b) *ℤ c ≡ a *ℤ c +ℤ b *ℤ c
 add_mul a b c = ℤ_ind (λ z. (z +ℤ b) *ℤ c ≡ z *ℤ c +ℤ b *ℤ c) none more less a
@@ -16,7 +16,7 @@ add_mul a b c = ℤ_ind (λ z. (z +ℤ b) *ℤ c ≡ z *ℤ c +ℤ b *ℤ c) non
     none =
         let e : pos 0 +ℤ b ≡ b = omega (arith, ints) in
         let f = ap (λ z. z *ℤ c) e in
-        let g = zero_*ℤ c in
+        let g = zero-*ℤ c in
         omega (arith, ints)
 
     more : (n : ℕ) → (pos n +ℤ b) *ℤ c ≡ pos n *ℤ c +ℤ b *ℤ c → ((pos n +ℤ pos 1) +ℤ b) *ℤ c ≡ (pos n +ℤ pos 1) *ℤ c +ℤ b *ℤ c
@@ -42,7 +42,7 @@ pub neg_mul : (a b : ℤ) → neg_ℤ a *ℤ b ≡ neg_ℤ (a *ℤ b)
 neg_mul a b =
     let e = add_mul (neg_ℤ a) a b in
     let f : neg_ℤ a +ℤ a ≡ pos 0 = omega (arith, ints) in
-    let g = ap (λ z. z *ℤ b) f ∙ zero_*ℤ b in
+    let g = ap (λ z. z *ℤ b) f ∙ zero-*ℤ b in
     let h : neg_ℤ a *ℤ b +ℤ a *ℤ b ≡ pos 0 = sym e ∙ g in
     omega (arith, ints)
 
@@ -59,7 +59,7 @@ pub mul_assoc : (a b c : ℤ) → (a *ℤ b) *ℤ c ≡ a *ℤ (b *ℤ c)
 mul_assoc a b c = ℤ_ind (λ z. (z *ℤ b) *ℤ c ≡ z *ℤ (b *ℤ c)) none more less a
   where
     none : (pos 0 *ℤ b) *ℤ c ≡ pos 0 *ℤ (b *ℤ c)
-    none = ap (λ z. z *ℤ c) (zero_*ℤ b) ∙ zero_*ℤ c ∙ sym (zero_*ℤ (b *ℤ c))
+    none = ap (λ z. z *ℤ c) (zero-*ℤ b) ∙ zero-*ℤ c ∙ sym (zero-*ℤ (b *ℤ c))
 
     more : (n : ℕ) → (pos n *ℤ b) *ℤ c ≡ pos n *ℤ (b *ℤ c) → ((pos n +ℤ pos 1) *ℤ b) *ℤ c ≡ (pos n +ℤ pos 1) *ℤ (b *ℤ c)
     more n h = ap (λ z. z *ℤ c) (next_mul (pos n) b) ∙ add_mul (pos n *ℤ b) b c ∙ ap (λ z. z +ℤ b *ℤ c) h ∙ sym (next_mul (pos n) (b *ℤ c))
@@ -70,7 +70,7 @@ mul_assoc a b c = ℤ_ind (λ z. (z *ℤ b) *ℤ c ≡ z *ℤ (b *ℤ c)) none m
 pub one_mul : (a : ℤ) → pos 1 *ℤ a ≡ a
 one_mul a =
     let e = next_mul (pos 0) a in
-    let f = zero_*ℤ a in
+    let f = zero-*ℤ a in
     omega (arith, ints)
 
 -- a product with a number from 0 on keeps the order
@@ -81,7 +81,7 @@ mul_mono k a b h = go (b -ℤ a) refl
     go (pos n) e =
         let s : b ≡ a +ℤ pos n = omega (arith, ints) in
         let t = ap (λ z. pos k *ℤ z) s ∙ mul_add (pos k) a (pos n) in
-        let u = pos_*ℤ-pos k n in
+        let u = pos-*ℤ-pos k n in
         let q : pos k *ℤ b ≡ pos k *ℤ a +ℤ pos (k * n) = t ∙ ap (λ z. pos k *ℤ a +ℤ z) u in
         omega (arith, ints)
     go (negsuc n) e = absurd (omega (arith, ints))

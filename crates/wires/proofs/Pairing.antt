@@ -1,7 +1,7 @@
 -- Any numbers g on the sites: the currents weighed by how much g falls along each wire are the seated currents weighed by g.
 use Rattle.std.proofs.Common.{◌≡◌, ℕ, zero, suc, ◌≤◌, Bool, true, false, cond, eqb, List, [], ◌∷◌, length, ℤ, pos, ◌+ℤ◌, ◌-ℤ◌, ◌*ℤ◌, neg_ℤ, sym, refl, ap, ◌∙◌, ⊎_elim, arith}
 use borrow.Author.Differences.{ints}
-use lib.IntN.{zero_*ℤ, *ℤ_comm}
+use lib.IntN.{zero-*ℤ, *ℤ_comm}
 use Rattle.std.proofs.lemmas.Bool.{eqb-true, eq-eqb, ne_eqb, cases_eq}
 use Rattle.wires.specs.declared.terminal.Terminal.{Terminal}
 use Rattle.wires.specs.declared.wire.Wire.{Wire}
@@ -29,7 +29,7 @@ away s (e ∷ es) = cond (eqb e.place s) (away s es) (e ∷ away s es)
 
 weight_away : (g : ℕ → ℤ) (s : ℕ) (es : List Entry) → weight g es ≡ weight g (away s es) +ℤ level es s *ℤ g s
 weight_away g s [] =
-    let z = zero_*ℤ (g s) in
+    let z = zero-*ℤ (g s) in
     omega (arith, ints)
 weight_away g s (e ∷ es) = go (eqb e.place s) refl (weight_away g s es)
   where
@@ -40,7 +40,7 @@ weight_away g s (e ∷ es) = go (eqb e.place s) refl (weight_away g s es)
         omega (arith, ints)
     go false t ih =
         let d = add_mul (pos 0) (level es s) (g s) in
-        let z = zero_*ℤ (g s) in
+        let z = zero-*ℤ (g s) in
         omega (arith, ints)
 
 level_away_here : (s : ℕ) (es : List Entry) → level (away s es) s ≡ pos 0
@@ -92,7 +92,7 @@ weightless g (suc n) (e ∷ es) short flat = go (weightless g n (away here (e �
 
     go : weight g (away here (e ∷ es)) ≡ pos 0 → weight g (e ∷ es) ≡ pos 0
     go ih =
-        let f = ap (λ z. z *ℤ g here) (flat here) ∙ zero_*ℤ (g here) in
+        let f = ap (λ z. z *ℤ g here) (flat here) ∙ zero-*ℤ (g here) in
         let d = weight_away g here (e ∷ es) in
         omega (arith, ints)
 
@@ -108,7 +108,7 @@ entries k ts (w ∷ ws) = record { place = w.start; amount = pos w.current } ∷
 
 level_seats : (k : ℕ) (ts : List Terminal) (s : ℕ) → level (seats k ts) s ≡ neg_ℤ (pos k *ℤ due ts s)
 level_seats k [] s =
-    let z = *ℤ_comm (pos k) (pos 0) ∙ zero_*ℤ (pos k) in
+    let z = *ℤ_comm (pos k) (pos 0) ∙ zero-*ℤ (pos k) in
     omega (arith, ints)
 level_seats k (t ∷ ts) s =
     let ih = level_seats k ts s in
@@ -128,7 +128,7 @@ level_entries k ts (w ∷ ws) s =
 
 weight_seats : (g : ℕ → ℤ) (k : ℕ) (ts : List Terminal) → weight g (seats k ts) ≡ neg_ℤ (pos k *ℤ sum (λ t. t.current *ℤ g t.site) ts)
 weight_seats g k [] =
-    let z = *ℤ_comm (pos k) (pos 0) ∙ zero_*ℤ (pos k) in
+    let z = *ℤ_comm (pos k) (pos 0) ∙ zero-*ℤ (pos k) in
     omega (arith, ints)
 weight_seats g k (t ∷ ts) =
     let ih = weight_seats g k ts in

@@ -1,7 +1,7 @@
 -- Heights under a least list: they rise by no more than the length, and by just the length along its wires.
 use Rattle.std.proofs.Common.{◌≡◌, ℕ, ◌*◌, ◌<◌, ◌≤◌, true, ◌⊎◌, List, [], ◌∷◌, ℤ, pos, ◌+ℤ◌, ◌-ℤ◌, ◌*ℤ◌, neg_ℤ, ◌≤ℤ◌, refl, ap, ◌∙◌, inl, inr, arith}
 use borrow.Author.Differences.{ints}
-use lib.IntN.{zero_*ℤ, pos_*ℤ-pos}
+use lib.IntN.{zero-*ℤ, pos-*ℤ-pos}
 use Rattle.std.proofs.lemmas.Bool.{cases_lt, cond-true, cond_both}
 use Rattle.ruler.specs.Meaning.{Meaning}
 use Rattle.wires.specs.declared.terminal.Terminal.{Terminal}
@@ -29,13 +29,13 @@ no_round m ts ws best r = go (cases_lt 0 folds)
     go : (0 < folds) ⊎ (folds ≤ 0) → ⊥
     go (inl h) =
         let d = best.least folds (omega arith) r.way.rival r.way.over meets in
-        let e = pos_*ℤ-pos folds (area m ws) in
+        let e = pos-*ℤ-pos folds (area m ws) in
         let f = r.way.costs in
         let g = r.negative in
         omega (arith, ints)
     go (inr h) =
         let none : folds ≡ 0 = omega arith in
-        let e = ap (λ k. pos k *ℤ pos (area m ws)) none ∙ zero_*ℤ (pos (area m ws)) in
+        let e = ap (λ k. pos k *ℤ pos (area m ws)) none ∙ zero-*ℤ (pos (area m ws)) in
         let f = r.way.costs in
         let g = r.negative in
         omega (arith, ints)
@@ -76,10 +76,10 @@ module _ (m : Meaning) (ts : List Terminal) (ws : List Wire) (h : Heights (sites
       go : (0 < w.current) ⊎ (w.current ≤ 0) → pos w.current *ℤ (h.height w.start -ℤ h.height w.end) ≡ neg_ℤ (pos (metal m w))
       go (inl some) =
           let d = m.span w.start w.end in
-          ap (λ z. pos w.current *ℤ z) (just w.start w.end i j (alive some)) ∙ mul_neg (pos w.current) (pos d) ∙ ap neg_ℤ (pos_*ℤ-pos w.current d)
+          ap (λ z. pos w.current *ℤ z) (just w.start w.end i j (alive some)) ∙ mul_neg (pos w.current) (pos d) ∙ ap neg_ℤ (pos-*ℤ-pos w.current d)
       go (inr few) =
           let none : w.current ≡ 0 = omega arith in
-          let e = ap (λ n. pos n *ℤ (h.height w.start -ℤ h.height w.end)) none ∙ zero_*ℤ (h.height w.start -ℤ h.height w.end) in
+          let e = ap (λ n. pos n *ℤ (h.height w.start -ℤ h.height w.end)) none ∙ zero-*ℤ (h.height w.start -ℤ h.height w.end) in
           let f = ap (λ n. n * m.span w.start w.end) none in
           omega (arith, ints)
 

@@ -1,7 +1,7 @@
 -- What counts at a site of a sum, a negative, a multiple, and of nothing.
 use Rattle.std.proofs.Common.{◌≡◌, ℕ, Bool, true, false, cond, eqb, ℤ, pos, ◌+ℤ◌, ◌*ℤ◌, neg_ℤ, sym, refl, ◌∙◌, arith}
 use borrow.Author.Differences.{ints}
-use lib.IntN.{zero_*ℤ, *ℤ_comm}
+use lib.IntN.{zero-*ℤ, *ℤ_comm}
 use Rattle.wires.specs.Wiring.{share}
 
 pub share_none : (a s : ℕ) → share a s (pos 0) ≡ pos 0
@@ -30,4 +30,4 @@ share_mul a s k z = go (eqb a s)
   where
     go : (b : Bool) → cond b (k *ℤ z) (pos 0) ≡ k *ℤ cond b z (pos 0)
     go true = refl
-    go false = sym (*ℤ_comm k (pos 0) ∙ zero_*ℤ k)
+    go false = sym (*ℤ_comm k (pos 0) ∙ zero-*ℤ k)

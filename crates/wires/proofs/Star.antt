@@ -1,7 +1,7 @@
 -- Terminals whose currents sum to 0 are met by a star: everything goes through the first one's site.
 use Rattle.std.proofs.Common.{◌≡◌, ℕ, suc, ◌*◌, ◌≤◌, true, List, [], ◌∷◌, ℤ, pos, negsuc, ◌+ℤ◌, ◌-ℤ◌, ◌*ℤ◌, refl, ap, ◌∙◌, arith}
 use borrow.Author.Differences.{ints}
-use lib.IntN.{zero_*ℤ, *ℤ_comm, pos_*ℤ-pos}
+use lib.IntN.{zero-*ℤ, *ℤ_comm, pos-*ℤ-pos}
 use Rattle.ruler.specs.Meaning.{Meaning}
 use Rattle.wires.specs.declared.terminal.Terminal.{Terminal}
 use Rattle.wires.specs.declared.wire.Wire.{Wire}
@@ -44,7 +44,7 @@ star k hub (t ∷ ts) = spoke k hub t.site t.current ∷ star k hub ts
 
 flow_spoke : (k hub site s : ℕ) (z : ℤ) → flow s (spoke k hub site z) ≡ pos k *ℤ (share site s z -ℤ share hub s z)
 flow_spoke k hub site s (pos n) =
-    let e = pos_*ℤ-pos k n in
+    let e = pos-*ℤ-pos k n in
     let a = ap (share site s) e in
     let b = ap (share hub s) e in
     let c = share_mul site s (pos k) (pos n) in
@@ -52,7 +52,7 @@ flow_spoke k hub site s (pos n) =
     let f = mul_sub (pos k) (share site s (pos n)) (share hub s (pos n)) in
     omega (arith, ints)
 flow_spoke k hub site s (negsuc n) =
-    let e = pos_*ℤ-pos k (suc n) in
+    let e = pos-*ℤ-pos k (suc n) in
     let a = ap (share site s) e in
     let b = ap (share hub s) e in
     let c = share_mul site s (pos k) (pos (suc n)) in
@@ -65,7 +65,7 @@ flow_spoke k hub site s (negsuc n) =
 net_star : (k hub : ℕ) (ts : List Terminal) (s : ℕ) → net (star k hub ts) s ≡ pos k *ℤ (due ts s -ℤ share hub s (sum (λ t. t.current) ts))
 net_star k hub [] s =
     let e = ap (λ z. pos k *ℤ (pos 0 -ℤ z)) (share_none hub s) in
-    let z = *ℤ_comm (pos k) (pos 0) ∙ zero_*ℤ (pos k) in
+    let z = *ℤ_comm (pos k) (pos 0) ∙ zero-*ℤ (pos k) in
     omega (arith, ints)
 net_star k hub (t ∷ ts) s =
     let rest = sum (λ (t : Terminal). t.current) ts in

@@ -1,7 +1,7 @@
 -- Feasible marks bound every area: they extend to all sites, and then no wire is shorter than the marks rise along it.
 use Rattle.std.proofs.Common.{◌≡◌, ℕ, ◌+◌, ◌-◌, ◌*◌, ◌≤◌, max, true, List, [], ◌∷◌, pos, ◌-ℤ◌, ◌*ℤ◌, neg_ℤ, ◌≤ℤ◌, ap, ◌∙◌, arith}
 use borrow.Author.Differences.{ints}
-use lib.IntN.{pos_*ℤ-pos}
+use lib.IntN.{pos-*ℤ-pos}
 use Rattle.std.specs.List.{AllByRecursion as All}
 use Rattle.std.proofs.ByRecursion.{All-weaker}
 use Rattle.ruler.specs.Meaning.{Meaning, Metric}
@@ -58,7 +58,7 @@ gained m f rise (w ∷ ws) over =
     let h = rise w.start w.end over.0.leaves over.0.arrives in
     let d = mul_neg (pos w.current) (pos (f w.start) -ℤ pos (f w.end)) in
     let o = mul_mono w.current (neg_ℤ (pos (f w.start) -ℤ pos (f w.end))) (pos (m.span w.start w.end)) (omega (arith, ints)) in
-    let p = pos_*ℤ-pos w.current (m.span w.start w.end) in
+    let p = pos-*ℤ-pos w.current (m.span w.start w.end) in
     omega (arith, ints)
 
 pub bounded : (m : Meaning) → Metric m → (ws : List Wire) → Bounded m ws (area m ws)
@@ -78,5 +78,5 @@ certified m law ws ps seats fair over meets tight = record { over = over; meets 
     least : (k : ℕ) → 1 ≤ k → (rival : List Wire) → Over m rival → Meets k (terminals ps) rival → k * area m ws ≤ area m rival
     least k from rival lies meet =
         let b = bounded m law rival k ps seats fair lies meet in
-        let e = ap (λ z. pos k *ℤ z) tight ∙ pos_*ℤ-pos k (area m ws) in
+        let e = ap (λ z. pos k *ℤ z) tight ∙ pos-*ℤ-pos k (area m ws) in
         omega (arith, ints)

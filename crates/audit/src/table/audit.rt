@@ -34,7 +34,7 @@ fn bad_current(wires: &[Wire]) -> Option<usize>
 
 // The first wire with an unknown site.
 fn bad_site<R: Ruler>(ruler: &R, wires: &[Wire]) -> Option<usize>
-    ensures { result ≡ lowest (λ i. not (lies (meaning ruler.now) (wire_at wires.now i))) (length wires.now) }
+    ensures { result ≡ lowest (λ i. not (lies (R.meaning ruler.now) (wire_at wires.now i))) (length wires.now) }
 {
     for i in 0..wires.len() {
         let wire = wires[i];
@@ -56,7 +56,7 @@ fn is_fitting(row: Option<Terminal>, mark: u32) -> bool
 
 // Whether b's mark y lies above a's mark x by more than the length from a to b.
 fn is_too_far<R: Ruler>(ruler: &R, a: Option<Terminal>, x: u32, b: Option<Terminal>, y: u32) -> bool
-    ensures { result ≡ too_far (meaning ruler.now) a x b y }
+    ensures { result ≡ too_far (R.meaning ruler.now) a x b y }
 {
     let Some(a) = a else {
         return false;
@@ -126,8 +126,8 @@ fn worth_of(row: Option<Terminal>, mark: u32) -> i64
 
 // The area of a list that audit can read: 1,024 wires of 32,000,000 over 4,000,000 at the most.
 fn readable_area<R: Ruler>(ruler: &R, wires: &[Wire]) -> u64
-    requires { Readable (meaning ruler.now) wires.now }
-    ensures area { result ≡ area (meaning ruler.now) wires.now }
+    requires { Readable (R.meaning ruler.now) wires.now }
+    ensures area { result ≡ area (R.meaning ruler.now) wires.now }
     ensures high { result ≤ 131072000000000000 }
 {
     match area_of(ruler, wires) {
@@ -220,7 +220,7 @@ impl Table {
     // Whether some row is marked too far above row a.
     fn is_strained<R: Ruler>(&self, ruler: &R, marks: &[u32], a: usize) -> bool
         requires { (length marks.now ≡ 64) × (a < 64) }
-        ensures { result ≡ strained (meaning ruler.now) self.now.rows marks.now a }
+        ensures { result ≡ strained (R.meaning ruler.now) self.now.rows marks.now a }
     {
         let from = self.rows[a];
         for b in 0..64 {
@@ -235,7 +235,7 @@ impl Table {
     // The first row that another is marked too far above.
     fn bad_reach<R: Ruler>(&self, ruler: &R, marks: &[u32]) -> Option<usize>
         requires { length marks.now ≡ 64 }
-        ensures { result ≡ lowest (strained (meaning ruler.now) self.now.rows marks.now) 64 }
+        ensures { result ≡ lowest (strained (R.meaning ruler.now) self.now.rows marks.now) 64 }
     {
         for a in 0..64 {
             if self.is_strained(ruler, marks, a) {
@@ -260,7 +260,7 @@ impl Table {
 
     // Whether a filed list of wires uses the least metal, as its marks show; the answer is its area.
     pub fn audit<R: Ruler>(&self, ruler: &R, wires: &[Wire], marks: &[u32]) -> Result<u64, Refusal>
-        ensures { result ≡ outcome (audit_asked (meaning ruler.now) self.now.rows wires.now marks.now) (area (meaning ruler.now) wires.now) }
+        ensures { result ≡ outcome (audit_asked (R.meaning ruler.now) self.now.rows wires.now marks.now) (area (R.meaning ruler.now) wires.now) }
     {
         if let Some(refusal) = self.form_question(ruler, wires, marks) {
             return Err(refusal);
@@ -274,7 +274,7 @@ impl Table {
 
     // All questions but the last.
     fn form_question<R: Ruler>(&self, ruler: &R, wires: &[Wire], marks: &[u32]) -> Option<Refusal>
-        ensures { result ≡ first_no (form_questions (meaning ruler.now) self.now.rows wires.now marks.now) }
+        ensures { result ≡ first_no (form_questions (R.meaning ruler.now) self.now.rows wires.now marks.now) }
     {
         if marks.len() != 64 {
             return Some(Refusal::MarkCount);

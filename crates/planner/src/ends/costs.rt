@@ -17,7 +17,7 @@ pub use listing::plan_of;
 
 // The length from one row to another, 0 where there is none to tell.
 fn cost_of<R: Ruler>(ruler: &R, from: Option<Terminal>, to: Option<Terminal>) -> u32
-    ensures cost { result ≡ cost_between (meaning ruler.now) from to }
+    ensures cost { result ≡ cost_between (R.meaning ruler.now) from to }
 {
     let Some(a) = from else {
         return 0;
@@ -57,7 +57,7 @@ fn fill_row<R: Ruler>(
     costs: &mut [u32; 4096],
 )
     requires { (Gathered table.now.rows true 64 sources.now) × ((Gathered table.now.rows false 64 sinks.now) × ((i < sources.now.count) × (length costs.old ≡ 4096))) }
-    ensures { CostRow (meaning ruler.now) table.now.rows sources.now sinks.now i sinks.now.count costs.old costs.new }
+    ensures { CostRow (R.meaning ruler.now) table.now.rows sources.now sinks.now i sinks.now.count costs.old costs.new }
 {
     let from = row_at(table, sources, i);
     for j in 0..sinks.count {
@@ -67,7 +67,7 @@ fn fill_row<R: Ruler>(
 
 fn costs_of<R: Ruler>(ruler: &R, table: &Table, sources: &Ends, sinks: &Ends) -> [u32; 4096]
     requires { (Gathered table.now.rows true 64 sources.now) × (Gathered table.now.rows false 64 sinks.now) }
-    ensures { Costs (meaning ruler.now) table.now.rows sources.now sinks.now sources.now.count result }
+    ensures { Costs (R.meaning ruler.now) table.now.rows sources.now sinks.now sources.now.count result }
 {
     let mut costs = [0; 4096];
     for i in 0..sources.count {
@@ -78,7 +78,7 @@ fn costs_of<R: Ruler>(ruler: &R, table: &Table, sources: &Ends, sinks: &Ends) ->
 
 fn case_of<R: Ruler>(ruler: &R, table: &Table, sources: &Ends, sinks: &Ends) -> Case
     requires { (Gathered table.now.rows true 64 sources.now) × (Gathered table.now.rows false 64 sinks.now) }
-    ensures { CaseOf (meaning ruler.now) table.now.rows sources.now sinks.now result }
+    ensures { CaseOf (R.meaning ruler.now) table.now.rows sources.now sinks.now result }
 {
     Case {
         sources: sources.count,

@@ -21,11 +21,11 @@ fn is_allowed(current: i32) -> bool
 
 impl<R: Ruler> Sheet<R> {
     pub fn seat(&mut self, id: u32, site: u32, current: i32) -> Result<(), Refusal>
-        ensures answer { result ≡ outcome (asked (meaning self.old.ruler) (ledger_of self.old.net) (Seat id site current)) tt }
-        ensures after { ledger_of self.new.net ≡ fed (meaning self.old.ruler) (ledger_of self.old.net) (Seat id site current) }
-        ensures plan { self.new.net.plan ≡ unless (asked (meaning self.old.ruler) (ledger_of self.old.net) (Seat id site current)) self.old.net.plan None }
+        ensures answer { result ≡ outcome (asked (R.meaning self.old.ruler) (ledger_of self.old.net) (Seat id site current)) tt }
+        ensures after { ledger_of self.new.net ≡ fed (R.meaning self.old.ruler) (ledger_of self.old.net) (Seat id site current) }
+        ensures plan { self.new.net.plan ≡ unless (asked (R.meaning self.old.ruler) (ledger_of self.old.net) (Seat id site current)) self.old.net.plan None }
         ensures same { self.new.ruler ≡ self.old.ruler }
-        ensures law { Lawful (meaning self.old.ruler) self.old.net → Lawful (meaning self.new.ruler) self.new.net }
+        ensures law { Lawful (R.meaning self.old.ruler) self.old.net → Lawful (R.meaning self.new.ruler) self.new.net }
     {
         if let Some(refusal) = self.seat_question(id, site, current) {
             return Err(refusal);
@@ -35,11 +35,11 @@ impl<R: Ruler> Sheet<R> {
     }
 
     pub fn move_to(&mut self, id: u32, site: u32) -> Result<(), Refusal>
-        ensures answer { result ≡ outcome (asked (meaning self.old.ruler) (ledger_of self.old.net) (Move id site)) tt }
-        ensures after { ledger_of self.new.net ≡ fed (meaning self.old.ruler) (ledger_of self.old.net) (Move id site) }
-        ensures plan { self.new.net.plan ≡ unless (asked (meaning self.old.ruler) (ledger_of self.old.net) (Move id site)) self.old.net.plan None }
+        ensures answer { result ≡ outcome (asked (R.meaning self.old.ruler) (ledger_of self.old.net) (Move id site)) tt }
+        ensures after { ledger_of self.new.net ≡ fed (R.meaning self.old.ruler) (ledger_of self.old.net) (Move id site) }
+        ensures plan { self.new.net.plan ≡ unless (asked (R.meaning self.old.ruler) (ledger_of self.old.net) (Move id site)) self.old.net.plan None }
         ensures same { self.new.ruler ≡ self.old.ruler }
-        ensures law { Lawful (meaning self.old.ruler) self.old.net → Lawful (meaning self.new.ruler) self.new.net }
+        ensures law { Lawful (R.meaning self.old.ruler) self.old.net → Lawful (R.meaning self.new.ruler) self.new.net }
     {
         let pin = self.seated(id)?;
         if let Some(refusal) = self.site_question(id, site) {
@@ -50,11 +50,11 @@ impl<R: Ruler> Sheet<R> {
     }
 
     pub fn alter(&mut self, id: u32, current: i32) -> Result<(), Refusal>
-        ensures answer { result ≡ outcome (asked (meaning self.old.ruler) (ledger_of self.old.net) (Alter id current)) tt }
-        ensures after { ledger_of self.new.net ≡ fed (meaning self.old.ruler) (ledger_of self.old.net) (Alter id current) }
-        ensures plan { self.new.net.plan ≡ unless (asked (meaning self.old.ruler) (ledger_of self.old.net) (Alter id current)) self.old.net.plan None }
+        ensures answer { result ≡ outcome (asked (R.meaning self.old.ruler) (ledger_of self.old.net) (Alter id current)) tt }
+        ensures after { ledger_of self.new.net ≡ fed (R.meaning self.old.ruler) (ledger_of self.old.net) (Alter id current) }
+        ensures plan { self.new.net.plan ≡ unless (asked (R.meaning self.old.ruler) (ledger_of self.old.net) (Alter id current)) self.old.net.plan None }
         ensures same { self.new.ruler ≡ self.old.ruler }
-        ensures law { Lawful (meaning self.old.ruler) self.old.net → Lawful (meaning self.new.ruler) self.new.net }
+        ensures law { Lawful (R.meaning self.old.ruler) self.old.net → Lawful (R.meaning self.new.ruler) self.new.net }
     {
         let pin = self.seated(id)?;
         if !is_allowed(current) {
@@ -65,11 +65,11 @@ impl<R: Ruler> Sheet<R> {
     }
 
     pub fn lift(&mut self, id: u32) -> Result<(), Refusal>
-        ensures answer { result ≡ outcome (asked (meaning self.old.ruler) (ledger_of self.old.net) (Lift id)) tt }
-        ensures after { ledger_of self.new.net ≡ fed (meaning self.old.ruler) (ledger_of self.old.net) (Lift id) }
-        ensures plan { self.new.net.plan ≡ unless (asked (meaning self.old.ruler) (ledger_of self.old.net) (Lift id)) self.old.net.plan None }
+        ensures answer { result ≡ outcome (asked (R.meaning self.old.ruler) (ledger_of self.old.net) (Lift id)) tt }
+        ensures after { ledger_of self.new.net ≡ fed (R.meaning self.old.ruler) (ledger_of self.old.net) (Lift id) }
+        ensures plan { self.new.net.plan ≡ unless (asked (R.meaning self.old.ruler) (ledger_of self.old.net) (Lift id)) self.old.net.plan None }
         ensures same { self.new.ruler ≡ self.old.ruler }
-        ensures law { Lawful (meaning self.old.ruler) self.old.net → Lawful (meaning self.new.ruler) self.new.net }
+        ensures law { Lawful (R.meaning self.old.ruler) self.old.net → Lawful (R.meaning self.new.ruler) self.new.net }
     {
         let _ = self.seated(id)?;
         self.enter(id, None);
@@ -82,7 +82,7 @@ impl<R: Ruler> Sheet<R> {
         ensures after { self.new.net.table.rows ≡ slice_set self.old.net.table.rows (id - 1) row }
         ensures plan { self.new.net.plan ≡ None }
         ensures same { self.new.ruler ≡ self.old.ruler }
-        ensures law { row_known (meaning self.old.ruler) row ≡ true → Upheld (meaning self.old.ruler) self.old.net.table.rows → Lawful (meaning self.new.ruler) self.new.net }
+        ensures law { row_known (R.meaning self.old.ruler) row ≡ true → Upheld (R.meaning self.old.ruler) self.old.net.table.rows → Lawful (R.meaning self.new.ruler) self.new.net }
     {
         self.net.table.rows[id as usize - 1] = row;
         self.reopen();
@@ -99,8 +99,8 @@ impl<R: Ruler> Sheet<R> {
 
     // The first no of the questions that seat is put to.
     fn seat_question(&self, id: u32, site: u32, current: i32) -> Option<Refusal>
-        ensures asked { result ≡ asked (meaning self.now.ruler) (ledger_of self.now.net) (Seat id site current) }
-        ensures known { result ≡ None → (meaning self.now.ruler).known site ≡ true }
+        ensures asked { result ≡ asked (R.meaning self.now.ruler) (ledger_of self.now.net) (Seat id site current) }
+        ensures known { result ≡ None → (R.meaning self.now.ruler).known site ≡ true }
     {
         if id < 1 || id > 64 {
             return Some(Refusal::IdOutOfRange { id });
@@ -116,8 +116,8 @@ impl<R: Ruler> Sheet<R> {
     }
 
     fn site_question(&self, id: u32, site: u32) -> Option<Refusal>
-        ensures asked { result ≡ site_is_known (meaning self.now.ruler) id site }
-        ensures known { result ≡ None → (meaning self.now.ruler).known site ≡ true }
+        ensures asked { result ≡ site_is_known (R.meaning self.now.ruler) id site }
+        ensures known { result ≡ None → (R.meaning self.now.ruler).known site ≡ true }
     {
         let Some(_) = self.ruler.length(site, site) else {
             return Some(Refusal::SiteUnknown { id });
@@ -128,7 +128,7 @@ impl<R: Ruler> Sheet<R> {
     // The terminal of an id, or the first no of the two questions that ask for one.
     fn seated(&self, id: u32) -> Result<Terminal, Refusal>
         ensures found { elim result [ Ok t ↦ (1 ≤ id) × (id ≤ 64) × (row_of self.now.net.table.rows id ≡ Some t) | Err e ↦ Some e ≡ first_no (id_in_range id ∷ id_is_seated self.now.net.table.rows id ∷ []) ] }
-        ensures known { elim result [ Ok t ↦ (Upheld (meaning self.now.ruler) self.now.net.table.rows → (meaning self.now.ruler).known t.site ≡ true) | Err e ↦ Unit {0} ] }
+        ensures known { elim result [ Ok t ↦ (Upheld (R.meaning self.now.ruler) self.now.net.table.rows → (R.meaning self.now.ruler).known t.site ≡ true) | Err e ↦ Unit {0} ] }
     {
         if id < 1 || id > 64 {
             return Err(Refusal::IdOutOfRange { id });

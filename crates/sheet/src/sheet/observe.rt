@@ -15,7 +15,7 @@ use ruler::ruler::Ruler;
 impl<R: Ruler> Sheet<R> {
     // Whether the sheet's ruler knows a site.
     pub fn knows(&self, site: u32) -> bool
-        ensures { result ≡ (meaning self.now.ruler).known site }
+        ensures { result ≡ (R.meaning self.now.ruler).known site }
     {
         self.ruler.known(site)
     }
@@ -42,7 +42,7 @@ impl<R: Ruler> Sheet<R> {
 
     // The area of the plan.
     pub fn area(&self) -> Result<u64, Refusal>
-        ensures { result ≡ outcome (asked (meaning self.now.ruler) (ledger_of self.now.net) Area) (told_area self.now.net.plan) }
+        ensures { result ≡ outcome (asked (R.meaning self.now.ruler) (ledger_of self.now.net) Area) (told_area self.now.net.plan) }
     {
         match self.net.plan {
             Some(plan) => Ok(plan.area),
@@ -52,7 +52,7 @@ impl<R: Ruler> Sheet<R> {
 
     // A wire of the plan by number: from id, to id and current, absent past the last.
     pub fn wire(&self, number: u32) -> Result<Option<(u32, u32, u32)>, Refusal>
-        ensures { result ≡ outcome (asked (meaning self.now.ruler) (ledger_of self.now.net) (Wire number)) (told_wire self.now.net.plan number) }
+        ensures { result ≡ outcome (asked (R.meaning self.now.ruler) (ledger_of self.now.net) (Wire number)) (told_wire self.now.net.plan number) }
     {
         let Some(plan) = self.net.plan else {
             return Err(Refusal::NotPlanned);
@@ -67,7 +67,7 @@ impl<R: Ruler> Sheet<R> {
 
     // The mark of an id.
     pub fn mark(&self, id: u32) -> Result<u32, Refusal>
-        ensures { result ≡ outcome (asked (meaning self.now.ruler) (ledger_of self.now.net) (Mark id)) (told_mark self.now.net.plan id) }
+        ensures { result ≡ outcome (asked (R.meaning self.now.ruler) (ledger_of self.now.net) (Mark id)) (told_mark self.now.net.plan id) }
     {
         if id < 1 || id > 64 {
             return Err(Refusal::IdOutOfRange { id });

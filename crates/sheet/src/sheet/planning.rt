@@ -16,12 +16,12 @@ use wires::balance::balance_of;
 impl<R: Ruler> Sheet<R> {
     // Plans a balanced sheet; a sheet that is planned stays as it is.
     pub fn plan(&mut self) -> Result<(), Refusal>
-        ensures answer { result ≡ outcome (asked (meaning self.old.ruler) (ledger_of self.old.net) Plan) tt }
-        ensures after { ledger_of self.new.net ≡ fed (meaning self.old.ruler) (ledger_of self.old.net) Plan }
-        ensures refused { (no' : Why) → asked (meaning self.old.ruler) (ledger_of self.old.net) Plan ≡ Some no' → self.new.net ≡ self.old.net }
+        ensures answer { result ≡ outcome (asked (R.meaning self.old.ruler) (ledger_of self.old.net) Plan) tt }
+        ensures after { ledger_of self.new.net ≡ fed (R.meaning self.old.ruler) (ledger_of self.old.net) Plan }
+        ensures refused { (no' : Why) → asked (R.meaning self.old.ruler) (ledger_of self.old.net) Plan ≡ Some no' → self.new.net ≡ self.old.net }
         ensures again { is_some self.old.net.plan ≡ true → self.new.net ≡ self.old.net }
         ensures same { self.new.ruler ≡ self.old.ruler }
-        ensures law { Lawful (meaning self.old.ruler) self.old.net → Lawful (meaning self.new.ruler) self.new.net }
+        ensures law { Lawful (R.meaning self.old.ruler) self.old.net → Lawful (R.meaning self.new.ruler) self.new.net }
     {
         if balance_of(&self.net.table.rows) != 0 {
             return Err(Refusal::Unbalanced);

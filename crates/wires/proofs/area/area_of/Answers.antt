@@ -12,12 +12,12 @@ use Rattle.wires.proofs.area.area_of.Goals as goal
 of_answer : (m : Meaning) (ws : List Wire) (r : Option ℕ) (P : ℕ → Type 0) → P (area m ws) → r ≡ measured_area m ws → (a : ℕ) → r ≡ Some a → P a
 of_answer m ws r P holds answer a e = subst P (area_is m ws a (sym answer ∙ e)) holds
 
-pub returns-in-default : goal.returns-in-default
-returns-in-default g c =
+pub returns-in_default : goal.returns-in_default
+returns-in_default g c =
     let m = g.R.Ruler.meaning c.args.ruler.now in
     let ws = c.args.wires.now in
     let law = g.met.R.Ruler.metric c.args.ruler.now in
-    let e = area_absent m ws c.loop-wire.wire-index _ c.loop-wire-test.true c.in-default.ensures in
+    let e = area_absent m ws c.loop-wire.wire-index _ c.loop-wire-test.true c.in_default.ensures in
     record { answer = e; bounded = of_answer m ws _ (Bounded m ws) (bounded m law ws) e; certified = of_answer m ws _ (Certified m ws) (certified m law ws) e; complete = of_answer m ws _ (Complete m ws) (complete m law ws) e }
 
 pub loop-wire-preserved : goal.loop-wire-preserved

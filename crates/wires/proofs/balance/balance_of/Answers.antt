@@ -8,7 +8,7 @@ use Rattle.wires.specs.Wiring.{seated, row_adds}
 use Rattle.wires.proofs.Star.{settled}
 use Rattle.wires.proofs.Sums.{seated_more}
 use Rattle.wires.proofs.balance.balance_of.Goals as goal
-use Rattle.wires.proofs.balance.balance_of.Goals.{in-Some, in-default}
+use Rattle.wires.proofs.balance.balance_of.Goals.{in-Some, in_default}
 
 pub loop-row-preserved : goal.loop-row-preserved
 loop-row-preserved c =
@@ -18,8 +18,8 @@ loop-row-preserved c =
           let r = ap (row_adds (λ (t : Terminal). t.current)) w.in-Some.is in
           let f : SFits w32 w.in-Some.terminal.current = search rules in
           omega (arith, ints)
-      | in-default w ↦
-          let r = ap (row_adds (λ (t : Terminal). t.current)) w.in-default.is in
+      | in_default w ↦
+          let r = ap (row_adds (λ (t : Terminal). t.current)) w.in_default.is in
           omega (arith, ints)
     ]
 

@@ -19,7 +19,7 @@ use wires::balance::balance_of;
 // sites never helps, so they are those of a least-cost transport from the sources to the sinks.
 pub fn plan_of<R: Ruler>(ruler: &R, table: &Table) -> Option<Plan>
     ensures absent { is_some result ≡ not (differ (sum (λ t. t.current) (seated table.now.rows)) (pos 0)) }
-    ensures planned { Upheld (meaning ruler.now) table.now.rows → IfPlanned result (Planned (meaning ruler.now) table.now.rows) }
+    ensures planned { Upheld (R.meaning ruler.now) table.now.rows → IfPlanned result (Planned (R.meaning ruler.now) table.now.rows) }
 {
     if balance_of(&table.rows) != 0 {
         return None;
