@@ -5,5 +5,5 @@ use Rattle.audit.proofs.table.Table.bad_mark.Goals as goal
 pub returns : goal.returns
 returns c = sym (lowest_none _ _ (search rules))
 
-pub returns-then-not-is-fitting : goal.returns-then-not-is-fitting
-returns-then-not-is-fitting c = sym (lowest_found _ _ _ c.loop-i.invariant (search rules) (search rules))
+pub returns-then-not-is_fitting : goal.returns-then-not-is_fitting
+returns-then-not-is_fitting c = sym (lowest_found _ _ _ c.loop-i.invariant (search rules) (search rules))

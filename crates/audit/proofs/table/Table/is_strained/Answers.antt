@@ -5,5 +5,5 @@ use Rattle.audit.proofs.table.Table.is_strained.Goals as goal
 pub returns : goal.returns
 returns g c = sym (ap is_some (lowest_none _ _ (search rules)))
 
-pub returns-then-is-too-far : goal.returns-then-is-too-far
-returns-then-is-too-far g c = sym (ap is_some (lowest_found _ _ _ c.loop-b.invariant (search rules) (search rules)))
+pub returns-then-is_too_far : goal.returns-then-is_too_far
+returns-then-is_too_far g c = sym (ap is_some (lowest_found _ _ _ c.loop-b.invariant (search rules) (search rules)))

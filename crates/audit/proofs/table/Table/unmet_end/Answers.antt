@@ -11,8 +11,8 @@ loop-i-init c = looked_none _
 
 pub loop-i-preserved : goal.loop-i-preserved
 loop-i-preserved c =
-    let first = c.lower-unmet-found.ensures in
-    let second = c.lower-unmet-found-in-loop-i.ensures in
+    let first = c.lower_unmet-found.ensures in
+    let second = c.lower_unmet-found-in-loop-i.ensures in
     looked_wire _ _ _ _ c.args.wires.now c.loop-i.i no_wire c.loop-i-test.true c.loop-i.invariant first.lower second.lower second.site
 
 pub returns : goal.returns

@@ -5,10 +5,10 @@ use Rattle.audit.specs.Audit.{unmet}
 use Rattle.audit.specs.Search.{Looked}
 use Rattle.audit.proofs.Touched.{looked_empty, looked_seat, found_lowest}
 use Rattle.audit.proofs.table.Table.unmet_site.Goals as goal
-use Rattle.audit.proofs.table.Table.unmet_site.Goals.{in-Some, in-default}
+use Rattle.audit.proofs.table.Table.unmet_site.Goals.{in-Some, in_default}
 
 pub loop-i-init : goal.loop-i-init
-loop-i-init c = c.unmet-end-found.ensures
+loop-i-init c = c.unmet_end-found.ensures
 
 pub loop-i-preserved : goal.loop-i-preserved
 loop-i-preserved c =
@@ -17,8 +17,8 @@ loop-i-preserved c =
     let bad = unmet rows ws in
     let P : Option ℕ → Type 0 = λ found. Looked bad found ws (take (c.loop-i.i + 1) rows) in
     elim c.match-row.branch [
-      | in-Some w ↦ subst P (sym w.found-is) (looked_seat bad c.loop-i.found ws rows c.loop-i.i (omega arith) c.loop-i.invariant w.in-Some.terminal _ w.in-Some.is w.lower-unmet-found.ensures.lower w.lower-unmet-found.ensures.site)
-      | in-default w ↦ subst P (sym w.found-is) (looked_empty bad c.loop-i.found ws rows c.loop-i.i (omega arith) c.loop-i.invariant w.in-default.is)
+      | in-Some w ↦ subst P (sym w.found-is) (looked_seat bad c.loop-i.found ws rows c.loop-i.i (omega arith) c.loop-i.invariant w.in-Some.terminal _ w.in-Some.is w.lower_unmet-found.ensures.lower w.lower_unmet-found.ensures.site)
+      | in_default w ↦ subst P (sym w.found-is) (looked_empty bad c.loop-i.found ws rows c.loop-i.i (omega arith) c.loop-i.invariant w.in_default.is)
     ]
 
 pub returns : goal.returns

@@ -5,5 +5,5 @@ use Rattle.audit.proofs.table.audit.bad_current.Goals as goal
 pub returns : goal.returns
 returns c = sym (lowest_none _ _ (search rules))
 
-pub returns-then-not-is-carrying : goal.returns-then-not-is-carrying
-returns-then-not-is-carrying c = sym (lowest_found _ _ _ c.loop-i.invariant (search rules) (search rules))
+pub returns-then-not-is_carrying : goal.returns-then-not-is_carrying
+returns-then-not-is_carrying c = sym (lowest_found _ _ _ c.loop-i.invariant (search rules) (search rules))

@@ -5,5 +5,5 @@ use Rattle.audit.proofs.table.audit.bad_site.Goals as goal
 pub returns : goal.returns
 returns g c = sym (lowest_none _ _ (search rules))
 
-pub returns-in-default : goal.returns-in-default
-returns-in-default g c = sym (lowest_found _ _ _ c.loop-i.invariant (search rules) (search rules))
+pub returns-in_default : goal.returns-in_default
+returns-in_default g c = sym (lowest_found _ _ _ c.loop-i.invariant (search rules) (search rules))

@@ -21,8 +21,8 @@ measured g c =
     let answer : Some c.in-Some.area ≡ measured_area m ws = c.in-Some.ensures.answer in
     cc
 
-pub overflow-cast-result : goal.overflow-cast-result
-overflow-cast-result g c =
+pub overflow_cast-result : goal.overflow_cast-result
+overflow_cast-result g c =
     let is = measured g c in
     let bound = readable_bound _ _ c.requires (g.met.R.Ruler.metric c.args.ruler.now) in
     omega arith

@@ -23,8 +23,8 @@ product c =
     let fits : SFits w32 current = search rules in
     worth_fits (taken c) (weight c) current c.args.mark (omega (arith, ints)) (omega (arith, ints)) (current_allowed c) (omega arith)
 
-pub overflow-mul-result : goal.overflow-mul-result
-overflow-mul-result c = (product c).0
+pub overflow_mul-result : goal.overflow_mul-result
+overflow_mul-result c = (product c).0
 
 pub returns-in-Some : goal.returns-in-Some
 returns-in-Some c =
