@@ -8,11 +8,11 @@ use Rattle.planner.proofs.ends.costs.amounts_of.Goals as goal
 pub loop-k-init : goal.loop-k-init
 loop-k-init c = amounts_none _ _ _
 
-pub row-at-requires : goal.row-at-requires
-row-at-requires c = let few = gathered_count _ _ _ _ c.requires in (c.requires.size, (omega arith, c.requires.inside c.loop-k.k c.loop-k-test.true))
+pub row_at-requires : goal.row_at-requires
+row_at-requires c = let few = gathered_count _ _ _ _ c.requires in (c.requires.size, (omega arith, c.requires.inside c.loop-k.k c.loop-k-test.true))
 
-pub offset-bounds-amounts-k : goal.offset-bounds-amounts-k
-offset-bounds-amounts-k c = let few = gathered_count _ _ _ _ c.requires in omega arith
+pub offset_bounds-amounts-k : goal.offset_bounds-amounts-k
+offset_bounds-amounts-k c = let few = gathered_count _ _ _ _ c.requires in omega arith
 
 pub bounds-amounts-k : goal.bounds-amounts-k
 bounds-amounts-k c = let few = gathered_count _ _ _ _ c.requires in let size = c.loop-k.invariant.size in omega arith
@@ -20,7 +20,7 @@ bounds-amounts-k c = let few = gathered_count _ _ _ _ c.requires in let size = c
 pub loop-k-preserved : goal.loop-k-preserved
 loop-k-preserved c =
     let few = gathered_count _ _ _ _ c.requires in
-    amounts_more c.args.table.now.rows c.args.ends.now c.args.giving c.loop-k.k _ c.loop-k.amounts c.loop-k.invariant (omega arith) (c.amount-of.ensures ∙ ap (amount c.args.giving) c.row-at.ensures)
+    amounts_more c.args.table.now.rows c.args.ends.now c.args.giving c.loop-k.k _ c.loop-k.amounts c.loop-k.invariant (omega arith) (c.amount_of.ensures ∙ ap (amount c.args.giving) c.row_at.ensures)
 
 pub returns : goal.returns
 returns c =

@@ -7,11 +7,11 @@ use Rattle.planner.proofs.ends.costs.costs_of.Goals as goal
 pub loop-i-init : goal.loop-i-init
 loop-i-init g c = costs_none _ _ _ _
 
-pub fill-row-requires : goal.fill-row-requires
-fill-row-requires g c = (c.requires.0, (c.requires.1, (c.loop-i-test.true, c.loop-i.invariant.size)))
+pub fill_row-requires : goal.fill_row-requires
+fill_row-requires g c = (c.requires.0, (c.requires.1, (c.loop-i-test.true, c.loop-i.invariant.size)))
 
 pub loop-i-preserved : goal.loop-i-preserved
-loop-i-preserved g c = costs_more _ _ _ _ c.loop-i.i _ _ (gathered_count _ _ _ _ c.requires.1) c.loop-i.invariant c.fill-row.ensures
+loop-i-preserved g c = costs_more _ _ _ _ c.loop-i.i _ _ (gathered_count _ _ _ _ c.requires.1) c.loop-i.invariant c.fill_row.ensures
 
 pub returns : goal.returns
 returns g c =

@@ -4,23 +4,23 @@ use Rattle.planner.proofs.Filling.{row_none, row_more}
 use Rattle.planner.proofs.Gathering.{gathered_count}
 use Rattle.planner.proofs.ends.costs.fill_row.Goals as goal
 
-pub row-at-from-requires : goal.row-at-from-requires
-row-at-from-requires g c = let few = gathered_count _ _ _ _ c.requires.0 in (c.requires.0.size, (omega arith, c.requires.0.inside c.args.i c.requires.1.1.0))
+pub row_at-from-requires : goal.row_at-from-requires
+row_at-from-requires g c = let few = gathered_count _ _ _ _ c.requires.0 in (c.requires.0.size, (omega arith, c.requires.0.inside c.args.i c.requires.1.1.0))
 
 pub loop-j-init : goal.loop-j-init
 loop-j-init g c = row_none _ _ _ _ _ _ c.requires.1.1.1
 
-pub row-at-requires : goal.row-at-requires
-row-at-requires g c = let few = gathered_count _ _ _ _ c.requires.1.0 in (c.requires.1.0.size, (omega arith, c.requires.1.0.inside c.loop-j.j c.loop-j-test.true))
+pub row_at-requires : goal.row_at-requires
+row_at-requires g c = let few = gathered_count _ _ _ _ c.requires.1.0 in (c.requires.1.0.size, (omega arith, c.requires.1.0.inside c.loop-j.j c.loop-j-test.true))
 
-pub overflow-mul-costs : goal.overflow-mul-costs
-overflow-mul-costs g c = let few = gathered_count _ _ _ _ c.requires.0 in omega arith
+pub overflow_mul-costs : goal.overflow_mul-costs
+overflow_mul-costs g c = let few = gathered_count _ _ _ _ c.requires.0 in omega arith
 
-pub overflow-add-costs : goal.overflow-add-costs
-overflow-add-costs g c = let few = gathered_count _ _ _ _ c.requires.0 in let less = gathered_count _ _ _ _ c.requires.1.0 in omega arith
+pub overflow_add-costs : goal.overflow_add-costs
+overflow_add-costs g c = let few = gathered_count _ _ _ _ c.requires.0 in let less = gathered_count _ _ _ _ c.requires.1.0 in omega arith
 
-pub offset-bounds-costs-i : goal.offset-bounds-costs-i
-offset-bounds-costs-i g c = let few = gathered_count _ _ _ _ c.requires.0 in let less = gathered_count _ _ _ _ c.requires.1.0 in omega arith
+pub offset_bounds-costs-i : goal.offset_bounds-costs-i
+offset_bounds-costs-i g c = let few = gathered_count _ _ _ _ c.requires.0 in let less = gathered_count _ _ _ _ c.requires.1.0 in omega arith
 
 pub bounds-costs-i : goal.bounds-costs-i
 bounds-costs-i g c = let few = gathered_count _ _ _ _ c.requires.0 in let less = gathered_count _ _ _ _ c.requires.1.0 in let size = c.loop-j.invariant.size in omega arith
@@ -30,7 +30,7 @@ loop-j-preserved g c =
     let few = gathered_count _ _ _ _ c.requires.0 in
     let less = gathered_count _ _ _ _ c.requires.1.0 in
     let m = g.R.Ruler.meaning c.args.ruler.now in
-    let is = c.cost_of.ensures.cost ∙ ap (λ from. cost_between m from c.row-at.result) c.row-at-from.ensures ∙ ap (cost_between m _) c.row-at.ensures in
+    let is = c.cost_of.ensures.cost ∙ ap (λ from. cost_between m from c.row_at.result) c.row_at-from.ensures ∙ ap (cost_between m _) c.row_at.ensures in
     row_more m c.args.table.now.rows c.args.sources.now c.args.sinks.now c.args.i c.loop-j.j _ c.args.costs.now c.loop-j.costs c.loop-j.invariant (omega arith) (omega arith) is
 
 pub returns : goal.returns

@@ -6,11 +6,11 @@ use Rattle.planner.proofs.ends.costs.listing.lay_links.Goals as goal
 pub loop-i-init : goal.loop-i-init
 loop-i-init c = drafted_none _ _ _ c.args.solved.now c.requires _
 
-pub lay-row-requires : goal.lay-row-requires
-lay-row-requires c = (c.requires, (c.loop-i-test.true, c.loop-i.invariant))
+pub lay_row-requires : goal.lay_row-requires
+lay_row-requires c = (c.requires, (c.loop-i-test.true, c.loop-i.invariant))
 
 pub loop-i-preserved : goal.loop-i-preserved
-loop-i-preserved c = c.lay-row.ensures
+loop-i-preserved c = c.lay_row.ensures
 
 pub returns : goal.returns
 returns c =

@@ -9,17 +9,17 @@ use Rattle.planner.proofs.ends.costs.listing.lay_row.Goals.{then-flow-gt0, else-
 pub loop-j-init : goal.loop-j-init
 loop-j-init c = c.requires.1.1
 
-pub offset-bounds-draft-draft : goal.offset-bounds-draft-draft
-offset-bounds-draft-draft c = let room = draft_room _ _ _ _ c.requires.0 _ _ _ c.loop-j.invariant c.requires.1.0 c.loop-j-test.true in omega arith
+pub offset_bounds-draft-draft : goal.offset_bounds-draft-draft
+offset_bounds-draft-draft c = let room = draft_room _ _ _ _ c.requires.0 _ _ _ c.loop-j.invariant c.requires.1.0 c.loop-j-test.true in omega arith
 
 pub bounds-draft-draft : goal.bounds-draft-draft
 bounds-draft-draft c = draft_room _ _ _ _ c.requires.0 _ _ _ c.loop-j.invariant c.requires.1.0 c.loop-j-test.true
 
-pub overflow-add-draft-then-flow-gt0-2 : goal.overflow-add-draft-then-flow-gt0-2
-overflow-add-draft-then-flow-gt0-2 c = let room = draft_room _ _ _ _ c.requires.0 _ _ _ c.loop-j.invariant c.requires.1.0 c.loop-j-test.true in omega arith
+pub overflow_add-draft-then-flow-gt0-2 : goal.overflow_add-draft-then-flow-gt0-2
+overflow_add-draft-then-flow-gt0-2 c = let room = draft_room _ _ _ _ c.requires.0 _ _ _ c.loop-j.invariant c.requires.1.0 c.loop-j-test.true in omega arith
 
-pub overflow-add-draft-then-flow-gt0-3 : goal.overflow-add-draft-then-flow-gt0-3
-overflow-add-draft-then-flow-gt0-3 c =
+pub overflow_add-draft-then-flow-gt0-3 : goal.overflow_add-draft-then-flow-gt0-3
+overflow_add-draft-then-flow-gt0-3 c =
     let room = draft_room _ _ _ _ c.requires.0 _ _ _ c.loop-j.invariant c.requires.1.0 c.loop-j-test.true in
     let cost = cost_small c.args.case.now c.args.sources.now c.args.sinks.now c.args.solved.now c.requires.0 c.args.i c.loop-j.j c.requires.1.0 c.loop-j-test.true in
     let is : c.from.result * c.from-then-flow-gt0.result ≡ cell c.args.solved.now.flow c.args.i c.loop-j.j * cost_of c.args.case.now c.args.i c.loop-j.j = cc (c.from.ensures, c.from-then-flow-gt0.ensures) in
