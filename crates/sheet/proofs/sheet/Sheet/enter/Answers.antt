@@ -5,8 +5,8 @@ use Rattle.sheet.proofs.Rows.{set_allowed}
 use Rattle.sheet.proofs.Upholding.{set_upheld}
 use Rattle.sheet.proofs.sheet.Sheet.enter.Goals as goal
 
-pub invariant-of-self : goal.invariant-of-self
-invariant-of-self g c =
+pub invariant_of-self : goal.invariant_of-self
+invariant_of-self g c =
     let table = c.args.self.now.net.table in
     let i = c.args.id - 1 in
     (length-set table.rows i c.args.row ∙ table.full, (set_allowed table.rows i c.args.row c.requires.1.1 table.ranged, tt))

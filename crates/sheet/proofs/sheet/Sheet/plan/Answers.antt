@@ -14,20 +14,20 @@ use Rattle.sheet.proofs.sheet.Sheet.plan.Goals as goal
 some_is_not_none : (r : Refusal) → Some r ≡ None → ⊥
 some_is_not_none r e = let z : ◌≡◌ {A = ℕ} 0 1 = cc in omega arith
 
-pub returns-then-is-none : goal.returns-then-is-none
-returns-then-is-none g c =
+pub returns-then-is_none : goal.returns-then-is_none
+returns-then-is_none g c =
     let sheet = c.args.self.now in
     let rows = sheet.net.table.rows in
     let m = g.R.Ruler.meaning sheet.ruler in
     let even : sum (λ (t : Terminal). t.current) (seated rows) ≡ pos 0 = search rules in
     let level = differ_from_same (sum (λ (t : Terminal). t.current) (seated rows)) (pos 0) even in
     let passed : currents_balance rows ≡ None = ap (λ b. cond (not b) None (Some Unbalanced)) level in
-    let made : is_some c.plan-of-self.result ≡ true = c.plan-of-self.ensures.absent ∙ ap not level in
+    let made : is_some c.plan_of-self.result ≡ true = c.plan_of-self.ensures.absent ∙ ap not level in
     record {
       answer = search rules;
       after = search rules;
       refused = λ no' e. absurd (some_is_not_none no' (sym e ∙ ap (λ q. first_no (q ∷ [])) passed));
-      again = λ t. absurd (both_ways (is_some sheet.net.plan) c.if-is-none.ensures t);
+      again = λ t. absurd (both_ways (is_some sheet.net.plan) c.if-is_none.ensures t);
       same = search rules;
-      law = λ before. lawful m (g.met.R.Ruler.metric sheet.ruler) _ before.upheld (c.plan-of-self.ensures.planned before.upheld);
+      law = λ before. lawful m (g.met.R.Ruler.metric sheet.ruler) _ before.upheld (c.plan_of-self.ensures.planned before.upheld);
     }

@@ -33,7 +33,11 @@ pub invariant-of-self : goal.invariant-of-self
 invariant-of-self c =
     let ns = c.args.self.now in
     let few = room ns c.args.node c.if-node-lt1.false c.if-node-gt64.false c.if-has.ensures in
-    (omega arith, (length-set ns.list ns.count c.args.node ∙ ns.full, (apart ns c.args.node c.if-node-lt1.false c.if-node-gt64.false c.if-has.ensures, tt)))
+    record {
+      few = omega arith;
+      full = length-set ns.list ns.count c.args.node ∙ ns.full;
+      apart = apart ns c.args.node c.if-node-lt1.false c.if-node-gt64.false c.if-has.ensures;
+    }
 
 pub returns : goal.returns
 returns c =
