@@ -2,7 +2,6 @@
 ghost use Rattle.std.specs.Prelude.{◌≡◌};
 ghost use Rattle.reader.specs.Refusals.{number_of, place_of};
 
-#[cycle(fault)]
 #[derive(Clone, Copy, PartialEq, Eq, Debug)]
 pub enum Fault {
     SheetInUse,
@@ -19,7 +18,6 @@ pub enum Fault {
     Leg(ruler::refusal::Refusal),
 }
 
-#[cycle(fault)]
 #[derive(Clone, Copy, PartialEq, Eq, Debug)]
 pub struct Refusal {
     pub fault: Fault,
