@@ -1,11 +1,9 @@
 -- One word after another: what a line of words says.
-use Rattle.std.proofs.Common.{◌≡◌, ℕ, ◌+◌, Bool, true, false, cond, eqb, List, [], ◌∷◌, length, Some, None, Ok, Option, Result, sym, refl, ap, ◌∙◌, arith}
-use Rattle.reader.specs.declared.line.Line.{Line}
+use Rattle.std.proofs.Common.{◌≡◌, ℕ, ◌+◌, Bool, true, false, cond, eqb, List, [], ◌∷◌, length, Some, None, Ok, sym, ap, ◌∙◌, arith}
 use Rattle.reader.specs.declared.line.Line.TheVariants.{Node, Arc}
-use Rattle.reader.specs.declared.refusal.Refusal.{Refusal}
-use Rattle.reader.specs.Lines.{arc_said, node_said, read, read_word}
+use Rattle.reader.specs.Lines.{arc_said, node_said, read_word}
 use Rattle.reader.specs.Numbers.{numeral, flow_of}
-use Rattle.reader.specs.Reading.{Place, Word, next_word, past, unspaced, upto, worded}
+use Rattle.reader.specs.Reading.{Place, Word, next_word, unspaced, upto, worded}
 use Rattle.reader.specs.Words.{words}
 
 -- from p the word w was read, and q is the place past it

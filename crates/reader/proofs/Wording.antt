@@ -5,7 +5,7 @@ use Rattle.std.proofs.lemmas.Bool.{eqb-true}
 use Rattle.std.proofs.lemmas.Bool.Decides.{nat_tests}
 use Rattle.std.specs.Option.{option_map}
 use Rattle.reader.specs.declared.reader.Word as lent
-use Rattle.reader.specs.Reading.{Place, Word, lined, next_word, past, place_of, unspaced, upto, word_of, worded}
+use Rattle.reader.specs.Reading.{Place, Word, lined, next_word, past, unspaced, upto, word_of, worded}
 use Rattle.reader.specs.Words.{kept, onto, pieces, rows, words}
 
 pub pieces_next : (stop b : ℕ) (bs : List ℕ) → pieces stop (b ∷ bs) ≡ upto stop (b ∷ bs) ∷ pieces stop (past stop (b ∷ bs))

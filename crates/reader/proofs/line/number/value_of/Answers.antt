@@ -7,12 +7,12 @@ loop-i-init c = spelled_none c.args.text.now
 
 pub loop-i-preserved : goal.loop-i-preserved
 loop-i-preserved c =
-    spelled_more c.loop-i.n c.loop-i.i c.args.text.now c.loop-i.invariant c.loop-i-test.true c.from.result (sym c.if-not-is-ascii-digit.ensures.value) c.from.ensures
+    spelled_more c.loop-i.n c.loop-i.i c.args.text.now c.loop-i.invariant c.loop-i-test.true c.from.result (sym c.if-not-is_ascii_digit.ensures.value) c.from.ensures
 
-pub returns-then-not-is-ascii-digit : goal.returns-then-not-is-ascii-digit
-returns-then-not-is-ascii-digit c =
+pub returns-then-not-is_ascii_digit : goal.returns-then-not-is_ascii_digit
+returns-then-not-is_ascii_digit c =
     record {
-      value = spelled_other c.loop-i.n c.loop-i.i c.args.text.now c.loop-i.invariant c.loop-i-test.true (sym c.if-not-is-ascii-digit.ensures.value);
+      value = spelled_other c.loop-i.n c.loop-i.i c.args.text.now c.loop-i.invariant c.loop-i-test.true (sym c.if-not-is_ascii_digit.ensures.value);
       bound = tt;
     }
 
