@@ -1,6 +1,6 @@
 -- Questions that are passed: one, a chain of them, and one put to every number below n.
 use Rattle.std.proofs.Common.{◌≡◌, ℕ, Bool, true, false, List, [], ◌∷◌, is_some, Some, None, Option, refl, ap, arith}
-use Rattle.std.specs.List.{AllByRecursion as All}
+use Rattle.std.specs.List.{AllByRecursion}
 use Rattle.std.proofs.lemmas.Bool.{true≢false}
 use Rattle.audit.specs.declared.refusal.Refusal.{Refusal}
 use Rattle.audit.specs.Audit.{lowest, fault}
@@ -13,7 +13,7 @@ ask_passed false r e = absurd (let z : ◌≡◌ {A = ℕ} 0 1 = cc in omega ari
 
 -- a chain is passed exactly when each of its questions is
 abbrev pub Passed : List (Option Refusal) → Type 0
-Passed qs = All (λ q. q ≡ None) qs
+Passed qs = AllByRecursion (λ q. q ≡ None) qs
 
 pub chain_passes : (qs : List (Option Refusal)) → Passed qs → first_no qs ≡ None
 chain_passes [] all = refl

@@ -1,6 +1,6 @@
 -- Pins against rows and marks by their number, and marks laid out again from pins.
 use Rattle.std.proofs.Common.{◌≡◌, ℕ, zero, suc, ◌+◌, ◌<◌, ◌≤◌, Bool, true, false, cond, ◌&&◌, List, [], ◌∷◌, length, Some, None, Option, sym, refl, ap, ◌∙◌, subst, arith}
-use Rattle.std.specs.List.{AllByRecursion as All}
+use Rattle.std.specs.List.{AllByRecursion}
 use Rattle.std.proofs.lemmas.Bool.{true≢false, ltb-false, le-ltb, le-leb, and_from}
 use Rattle.ruler.specs.Meaning.{Meaning}
 use Rattle.wires.specs.declared.terminal.Terminal.{Terminal}
@@ -16,7 +16,7 @@ terminals_pins (None ∷ rows) [] e = absurd (omega arith)
 terminals_pins (None ∷ rows) (x ∷ marks) e = terminals_pins rows marks (omega arith)
 
 -- what holds of each filled row and its mark holds of each pin
-pins_from_rows : (P : Pin → Type 0) (rows : List (Option Terminal)) (marks : List ℕ) → ((i : ℕ) (t : Terminal) → i < length rows → row_at rows i ≡ Some t → P (record { terminal = t; mark = mark_at marks i })) → All P (pins rows marks)
+pins_from_rows : (P : Pin → Type 0) (rows : List (Option Terminal)) (marks : List ℕ) → ((i : ℕ) (t : Terminal) → i < length rows → row_at rows i ≡ Some t → P (record { terminal = t; mark = mark_at marks i })) → AllByRecursion P (pins rows marks)
 pins_from_rows P [] marks h = tt
 pins_from_rows P (Some t ∷ rows) [] h = tt
 pins_from_rows P (Some t ∷ rows) (x ∷ marks) h = (h 0 t (omega arith) refl, pins_from_rows P rows marks (λ i u l. h (suc i) u (omega arith)))
@@ -24,7 +24,7 @@ pins_from_rows P (None ∷ rows) [] h = tt
 pins_from_rows P (None ∷ rows) (x ∷ marks) h = pins_from_rows P rows marks (λ i u l. h (suc i) u (omega arith))
 
 -- what holds of each pin holds of a filled row and its mark
-row_from_pins : (P : Pin → Type 0) (rows : List (Option Terminal)) (marks : List ℕ) (i : ℕ) (t : Terminal) → length marks ≡ length rows → row_at rows i ≡ Some t → All P (pins rows marks) → P (record { terminal = t; mark = mark_at marks i })
+row_from_pins : (P : Pin → Type 0) (rows : List (Option Terminal)) (marks : List ℕ) (i : ℕ) (t : Terminal) → length marks ≡ length rows → row_at rows i ≡ Some t → AllByRecursion P (pins rows marks) → P (record { terminal = t; mark = mark_at marks i })
 row_from_pins P [] marks i t e r all = absurd (let z : ◌≡◌ {A = ℕ} 0 1 = cc in omega arith)
 row_from_pins P (Some u ∷ rows) [] i t e r all = absurd (omega arith)
 row_from_pins P (Some u ∷ rows) (x ∷ marks) zero t e r all = let s : u ≡ t = cc in subst (λ v. P (record { terminal = v; mark = x })) s all.0
@@ -34,7 +34,7 @@ row_from_pins P (None ∷ rows) (x ∷ marks) zero t e r all = absurd (let z : �
 row_from_pins P (None ∷ rows) (x ∷ marks) (suc i) t e r all = row_from_pins P rows marks i t (omega arith) r all
 
 -- what holds of each seated terminal holds of a filled row
-pub row_from_seated : (P : Terminal → Type 0) (rows : List (Option Terminal)) (i : ℕ) (t : Terminal) → row_at rows i ≡ Some t → All P (seated rows) → P t
+pub row_from_seated : (P : Terminal → Type 0) (rows : List (Option Terminal)) (i : ℕ) (t : Terminal) → row_at rows i ≡ Some t → AllByRecursion P (seated rows) → P t
 row_from_seated P [] i t r all = absurd (let z : ◌≡◌ {A = ℕ} 0 1 = cc in omega arith)
 row_from_seated P (Some u ∷ rows) zero t r all = let s : u ≡ t = cc in subst P s all.0
 row_from_seated P (Some u ∷ rows) (suc i) t r all = row_from_seated P rows i t r all.1
@@ -59,7 +59,7 @@ near_from_reaches m t u x y k l h =
 
 pub feasible_from_near : (m : Meaning) (rows : List (Option Terminal)) (marks : List ℕ) → Near m rows marks → Feasible m (pins rows marks)
 feasible_from_near m rows marks near =
-    pins_from_rows (λ a. All (Reaches m a) (pins rows marks)) rows marks (λ i t k r. pins_from_rows (Reaches m (record { terminal = t; mark = mark_at marks i })) rows marks (λ j u l s. reaches_from_near m t u (mark_at marks i) (mark_at marks j) (at i j t u k l r s)))
+    pins_from_rows (λ a. AllByRecursion (Reaches m a) (pins rows marks)) rows marks (λ i t k r. pins_from_rows (Reaches m (record { terminal = t; mark = mark_at marks i })) rows marks (λ j u l s. reaches_from_near m t u (mark_at marks i) (mark_at marks j) (at i j t u k l r s)))
   where
     at : (i j : ℕ) (t u : Terminal) → i < length rows → j < length rows → row_at rows i ≡ Some t → row_at rows j ≡ Some u → too_far m (Some t) (mark_at marks i) (Some u) (mark_at marks j) ≡ false
     at i j t u k l r s = sym (ap (λ o. too_far m o (mark_at marks i) (row_at rows j) (mark_at marks j)) r ∙ ap (λ o. too_far m (Some t) (mark_at marks i) o (mark_at marks j)) s) ∙ near i j k l
@@ -72,7 +72,7 @@ near_from_feasible m rows marks e known feasible i j k l = go (row_at rows i) (r
     go (Some t) None r s = refl
     go (Some t) (Some u) r s =
         let a : Pin = record { terminal = t; mark = mark_at marks i } in
-        let from = row_from_pins (λ p. All (Reaches m p) (pins rows marks)) rows marks i t e r feasible in
+        let from = row_from_pins (λ p. AllByRecursion (Reaches m p) (pins rows marks)) rows marks i t e r feasible in
         let reach = row_from_pins (Reaches m a) rows marks j u e s from in
         near_from_reaches m t u (mark_at marks i) (mark_at marks j) (row_from_seated (λ v. m.known v.site ≡ true) rows i t r known) (row_from_seated (λ v. m.known v.site ≡ true) rows j u s known) reach
 
@@ -100,7 +100,7 @@ pins_spread (Some t ∷ rows) (p ∷ ps) e =
     cc (same, pins_spread rows ps rest)
 pins_spread (None ∷ rows) ps e = pins_spread rows ps e
 
-pub spread_fits : (rows : List (Option Terminal)) (ps : List Pin) → All (λ p. p.mark ≤ 4000000) ps → (i : ℕ) → mark_fits (row_at rows i) (mark_at (spread rows ps) i) ≡ true
+pub spread_fits : (rows : List (Option Terminal)) (ps : List Pin) → AllByRecursion (λ p. p.mark ≤ 4000000) ps → (i : ℕ) → mark_fits (row_at rows i) (mark_at (spread rows ps) i) ≡ true
 spread_fits [] ps all i = refl
 spread_fits (Some t ∷ rows) [] all zero = refl
 spread_fits (Some t ∷ rows) [] all (suc i) = spread_fits rows [] all i

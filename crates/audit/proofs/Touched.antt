@@ -1,7 +1,7 @@
 -- Where the smallest site that fails is found: only sites that a wire or a terminal touches can fail.
 use Rattle.std.proofs.Common.{◌≡◌, ℕ, ◌+◌, ◌^◌, ◌<◌, ◌≤◌, Bool, true, false, cond, ◌&&◌, eqb, ltb, ◌⊎◌, List, [], ◌∷◌, length, get_or, take, ℤ, pos, Some, None, Option, sym, refl, subst, inl, inr, arith}
 use borrow.Author.Differences.{ints}
-use Rattle.std.specs.List.{AllByRecursion as All}
+use Rattle.std.specs.List.{AllByRecursion}
 use Rattle.std.proofs.ByRecursion.{All-more, All-weaker}
 use Rattle.std.proofs.lemmas.Bool.{and_parts, cases_Bool, both_ways, eqb-true, ltb-true, ltb-false}
 use Rattle.wires.specs.declared.terminal.Terminal.{Terminal}
@@ -72,7 +72,7 @@ looked_wire bad found mid next ws i d h l to_mid to_next site = record { site = 
     rest : (t : ℕ) → Passed bad found t → Passed bad next t
     rest t p = then_rest bad mid (get_or ws i d).end next to_next t (then_rest bad found (get_or ws i d).start mid to_mid t p)
 
-    ends : All (λ w. Passed bad next w.start × Passed bad next w.end) (take (i + 1) ws)
+    ends : AllByRecursion (λ w. Passed bad next w.start × Passed bad next w.end) (take (i + 1) ws)
     ends = All-more (λ w. Passed bad next w.start × Passed bad next w.end) ws i d h (All-weaker (λ w. Passed bad found w.start × Passed bad found w.end) (λ w. Passed bad next w.start × Passed bad next w.end) (λ w p. (rest w.start p.0, rest w.end p.1)) (take i ws) l.ends) (then_rest bad mid (get_or ws i d).end next to_next (get_or ws i d).start (then_here bad found (get_or ws i d).start mid to_mid), then_here bad mid (get_or ws i d).end next to_next)
 
 -- the next row was looked at: empty, or its terminal's site
@@ -90,10 +90,10 @@ module _ (bad : ℕ → Bool) (found : Option ℕ) (ws : List Wire) (rows : List
       rest_row (Some u) p = rest u.site p
       rest_row None p = tt
 
-      ends : All (λ w. Passed bad next w.start × Passed bad next w.end) ws
+      ends : AllByRecursion (λ w. Passed bad next w.start × Passed bad next w.end) ws
       ends = All-weaker (λ w. Passed bad found w.start × Passed bad found w.end) (λ w. Passed bad next w.start × Passed bad next w.end) (λ w p. (rest w.start p.0, rest w.end p.1)) ws l.ends
 
-      seats : All (OfRow (λ t. Passed bad next t.site)) (take (i + 1) rows)
+      seats : AllByRecursion (OfRow (λ t. Passed bad next t.site)) (take (i + 1) rows)
       seats = All-more (OfRow (λ t. Passed bad next t.site)) rows i None h (All-weaker (OfRow (λ t. Passed bad found t.site)) (OfRow (λ t. Passed bad next t.site)) rest_row (take i rows) l.seats) (subst (OfRow (λ t. Passed bad next t.site)) (sym e) (then_here bad found t.site next is))
 
 -- something stands at a site, or it adds nothing there
@@ -104,7 +104,7 @@ share_or_none P a s z p = go (eqb a s) refl
     go true e = inl (subst P (eqb-true a s e) p)
     go false e = inr refl
 
-net_or_none : (P : ℕ → Type 0) (ws : List Wire) (s : ℕ) → All (λ w. P w.start × P w.end) ws → P s ⊎ (net ws s ≡ pos 0)
+net_or_none : (P : ℕ → Type 0) (ws : List Wire) (s : ℕ) → AllByRecursion (λ w. P w.start × P w.end) ws → P s ⊎ (net ws s ≡ pos 0)
 net_or_none P [] s all = inr refl
 net_or_none P (w ∷ ws) s all = go (share_or_none P w.start s (pos w.current) all.0.0) (share_or_none P w.end s (pos w.current) all.0.1) (net_or_none P ws s all.1)
   where
@@ -114,7 +114,7 @@ net_or_none P (w ∷ ws) s all = go (share_or_none P w.start s (pos w.current) a
     go (inr a) (inr b) (inl p) = inl p
     go (inr a) (inr b) (inr c) = inr (omega (arith, ints))
 
-due_or_none : (P : ℕ → Type 0) (rows : List (Option Terminal)) (s : ℕ) → All (OfRow (λ t. P t.site)) rows → P s ⊎ (due (seated rows) s ≡ pos 0)
+due_or_none : (P : ℕ → Type 0) (rows : List (Option Terminal)) (s : ℕ) → AllByRecursion (OfRow (λ t. P t.site)) rows → P s ⊎ (due (seated rows) s ≡ pos 0)
 due_or_none P [] s all = inr refl
 due_or_none P (None ∷ rows) s all = due_or_none P rows s all.1
 due_or_none P (Some t ∷ rows) s all = go (share_or_none P t.site s t.current all.0) (due_or_none P rows s all.1)
@@ -126,7 +126,7 @@ due_or_none P (Some t ∷ rows) s all = go (share_or_none P t.site s t.current a
 
 -- when every site that is touched was looked at, what was found is the smallest that fails
 module _ (rows : List (Option Terminal)) (ws : List Wire) where
-  all_looked : (P : ℕ → Type 0) → All (λ w. P w.start × P w.end) ws → All (OfRow (λ t. P t.site)) rows → (s : ℕ) → P s ⊎ (unmet rows ws s ≡ false)
+  all_looked : (P : ℕ → Type 0) → AllByRecursion (λ w. P w.start × P w.end) ws → AllByRecursion (OfRow (λ t. P t.site)) rows → (s : ℕ) → P s ⊎ (unmet rows ws s ≡ false)
   all_looked P ends seats s = go (net_or_none P ws s ends) (due_or_none P rows s seats)
     where
       go : P s ⊎ (net ws s ≡ pos 0) → P s ⊎ (due (seated rows) s ≡ pos 0) → P s ⊎ (unmet rows ws s ≡ false)

@@ -1,6 +1,6 @@
 -- How the audit looks for the smallest site that fails: among the sites that wires or terminals touch.
 use Rattle.std.specs.Prelude.{◌≡◌, ℕ, ◌^◌, ◌<◌, ◌≤◌, Bool, true, false, cond, ◌&&◌, List, Some, None, Option, nat_lt}
-use Rattle.std.specs.List.{AllByRecursion as All}
+use Rattle.std.specs.List.{AllByRecursion}
 use Rattle.wires.specs.declared.terminal.Terminal.{Terminal}
 use Rattle.wires.specs.declared.wire.Wire.{Wire}
 
@@ -33,5 +33,5 @@ OfRow P None = Unit {0}
 pub record Looked (bad : ℕ → Bool) (found : Option ℕ) (ws : List Wire) (rows : List (Option Terminal)) : Type 0 where
   pub site : IsSite found
   pub fails : Fails bad found
-  pub ends : All (λ w. Passed bad found w.start × Passed bad found w.end) ws
-  pub seats : All (OfRow (λ t. Passed bad found t.site)) rows
+  pub ends : AllByRecursion (λ w. Passed bad found w.start × Passed bad found w.end) ws
+  pub seats : AllByRecursion (OfRow (λ t. Passed bad found t.site)) rows

@@ -1,6 +1,6 @@
 -- A scan that ends well heard a document within the limits.
 use Rattle.std.proofs.Common.{◌≡◌, ℕ, suc, ◌+◌, ◌<◌, ◌≤◌, Bool, false, cond, eqb, ltb, List, [], ◌∷◌, ◌++◌, map, length, Some, None, Ok, Err, Result, sym, refl, ap, ◌∙◌, subst, inl, inr, arith}
-use Rattle.std.specs.List.{AllByRecursion as All}
+use Rattle.std.specs.List.{AllByRecursion}
 use Rattle.std.proofs.ByRecursion.{All-weaker}
 use Rattle.std.proofs.lemmas.List.{append-nil, append_assoc}
 use Rattle.std.proofs.lemmas.Bool.{eqb-false, eqb-true, or_parts}
@@ -29,7 +29,7 @@ record ArcsHeard (p : the_problem.Problem) (ns : List the_node.Node) (xs : List 
   say : SayArcs rows arcs
   count : p.arcs ≡ k + length arcs
   is : e ≡ draft p ns (xs ++ map arc_of arcs) (k + length arcs)
-  within : (doc : Document) → doc.sites ≡ p.sites → nodes_of doc ≡ ns → All (ArcWithin doc) arcs
+  within : (doc : Document) → doc.sites ≡ p.sites → nodes_of doc ≡ ns → AllByRecursion (ArcWithin doc) arcs
 
 module _ (known : ℕ → Bool) (p : the_problem.Problem) (short : p.arcs ≤ 2000) (e : Draft) where
   arcs_heard : (rows : Rows) (n : ℕ) (ns : List the_node.Node) (xs : List the_arc.Arc) (k : ℕ) → 0 < k → scanned_from known n (draft p ns xs k) rows ≡ Ok e → ArcsHeard p ns xs k rows e
@@ -82,10 +82,10 @@ record NodesHeard (known : ℕ → Bool) (p : the_problem.Problem) (ns : List th
   say : SayNodes rows nodes arcs
   count : p.arcs ≡ length arcs
   is : e ≡ draft p (ns ++ map node_of nodes) (map arc_of arcs) (length arcs)
-  fresh : All (λ n. taken ns n.id ≡ false) nodes
+  fresh : AllByRecursion (λ n. taken ns n.id ≡ false) nodes
   distinct : Distinct nodes
-  within : (doc : Document) → doc.sites ≡ p.sites → All (NodeWithin known doc) nodes
-  arcs_within : (doc : Document) → doc.sites ≡ p.sites → nodes_of doc ≡ ns ++ map node_of nodes → All (ArcWithin doc) arcs
+  within : (doc : Document) → doc.sites ≡ p.sites → AllByRecursion (NodeWithin known doc) nodes
+  arcs_within : (doc : Document) → doc.sites ≡ p.sites → nodes_of doc ≡ ns ++ map node_of nodes → AllByRecursion (ArcWithin doc) arcs
 
 module _ (known : ℕ → Bool) (p : the_problem.Problem) (short : p.arcs ≤ 2000) (e : Draft) where
   nodes_heard : (rows : Rows) (n : ℕ) (ns : List the_node.Node) → scanned_from known n (draft p ns [] 0) rows ≡ Ok e → NodesHeard known p ns rows e

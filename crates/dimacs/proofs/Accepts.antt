@@ -1,6 +1,6 @@
 -- A document within the limits is taken, line by line.
 use Rattle.std.proofs.Common.{◌≡◌, ℕ, ◌+◌, ◌<◌, Bool, true, false, cond, eqb, ltb, List, [], ◌∷◌, ◌++◌, map, length, None, Ok, sym, refl, ap, ◌∙◌, inl, inr, arith}
-use Rattle.std.specs.List.{AllByRecursion as All}
+use Rattle.std.specs.List.{AllByRecursion}
 use Rattle.std.proofs.lemmas.List.{append-nil, append_assoc}
 use Rattle.std.proofs.lemmas.Bool.{ne_eqb, or_from}
 use Rattle.audit.specs.Questions.{outcome}
@@ -14,12 +14,12 @@ use Rattle.dimacs.proofs.Questions.{arc_passes, node_passes, problem_passes}
 use Rattle.dimacs.proofs.Sayings.{arc_is_said, node_is_said, problem_is_said}
 
 -- nodes that are not among these, nor one more
-all_fresh : (ns : List the_node.Node) (m : NodeLine) (ls : List NodeLine) → All (λ l. taken ns l.id ≡ false) ls → All (λ l. m.id ≡ l.id → ⊥) ls → All (λ l. taken (ns ++ (node_of m ∷ [])) l.id ≡ false) ls
+all_fresh : (ns : List the_node.Node) (m : NodeLine) (ls : List NodeLine) → AllByRecursion (λ l. taken ns l.id ≡ false) ls → AllByRecursion (λ l. m.id ≡ l.id → ⊥) ls → AllByRecursion (λ l. taken (ns ++ (node_of m ∷ [])) l.id ≡ false) ls
 all_fresh ns m [] free other = tt
 all_fresh ns m (l ∷ ls) free other =
     (taken_push ns (node_of m) l.id ∙ or_from (taken ns l.id) (eqb m.id l.id) free.0 (ne_eqb m.id l.id other.0), all_fresh ns m ls free.1 other.1)
 
-none_taken : (ls : List NodeLine) → All (λ l. taken [] l.id ≡ false) ls
+none_taken : (ls : List NodeLine) → AllByRecursion (λ l. taken [] l.id ≡ false) ls
 none_taken [] = tt
 none_taken (l ∷ ls) = (refl, none_taken ls)
 
@@ -47,7 +47,7 @@ module _ (known : ℕ → Bool) where
     ns = nodes_of doc
 
     -- arcs after all the nodes
-    arcs_taken : (rows : Rows) (n : ℕ) (xs : List the_arc.Arc) (k : ℕ) (arcs : List ArcLine) → SayArcs rows arcs → All (ArcWithin doc) arcs → length doc.arcs ≡ k + length arcs → scanned_from known n (draft p ns xs k) rows ≡ Ok (draft p ns (xs ++ map arc_of arcs) (k + length arcs))
+    arcs_taken : (rows : Rows) (n : ℕ) (xs : List the_arc.Arc) (k : ℕ) (arcs : List ArcLine) → SayArcs rows arcs → AllByRecursion (ArcWithin doc) arcs → length doc.arcs ≡ k + length arcs → scanned_from known n (draft p ns xs k) rows ≡ Ok (draft p ns (xs ++ map arc_of arcs) (k + length arcs))
     arcs_taken [] n xs k [] say within count = finishes p ns (n + 1) xs k (omega arith) ∙ ap Ok (draft_end p ns xs k)
     arcs_taken [] n xs k (a ∷ arcs) say within count = absurd say
     arcs_taken (ws ∷ rest) n xs k [] say within count =
@@ -63,7 +63,7 @@ module _ (known : ℕ → Bool) where
         ]
 
     -- nodes, and then arcs
-    nodes_taken : (rows : Rows) (n : ℕ) (so_far : List the_node.Node) (nodes : List NodeLine) (arcs : List ArcLine) → SayNodes rows nodes arcs → so_far ++ map node_of nodes ≡ ns → All (NodeWithin known doc) nodes → Distinct nodes → All (λ m. taken so_far m.id ≡ false) nodes → All (ArcWithin doc) arcs → length doc.arcs ≡ length arcs → scanned_from known n (draft p so_far [] 0) rows ≡ Ok (draft p ns (map arc_of arcs) (length arcs))
+    nodes_taken : (rows : Rows) (n : ℕ) (so_far : List the_node.Node) (nodes : List NodeLine) (arcs : List ArcLine) → SayNodes rows nodes arcs → so_far ++ map node_of nodes ≡ ns → AllByRecursion (NodeWithin known doc) nodes → Distinct nodes → AllByRecursion (λ m. taken so_far m.id ≡ false) nodes → AllByRecursion (ArcWithin doc) arcs → length doc.arcs ≡ length arcs → scanned_from known n (draft p so_far [] 0) rows ≡ Ok (draft p ns (map arc_of arcs) (length arcs))
     nodes_taken rows n so_far [] arcs say all within distinct free arcs_within count =
         let same : 0 + length arcs ≡ length arcs = omega arith in
         ap (λ l. scanned_from known n (draft p l [] 0) rows) (sym (append-nil so_far) ∙ all) ∙ arcs_taken rows n [] 0 arcs (only_arcs rows say) arcs_within (omega arith) ∙ ap (λ k. Ok (draft p ns (map arc_of arcs) k)) same

@@ -1,6 +1,6 @@
 -- A text of well-formed lines is read as their words, and every text that ends its last line is such a text.
 use Rattle.std.proofs.Common.{◌≡◌, ℕ, zero, suc, ◌-◌, ◌<◌, ◌≤◌, true, cond, eqb, List, [], ◌∷◌, ◌++◌, map, length, get_or, replicate, sym, refl, ap, ◌∙◌, subst, inl, inr, arith, lit<}
-use Rattle.std.specs.List.{AllByRecursion as All}
+use Rattle.std.specs.List.{AllByRecursion}
 use Rattle.std.proofs.ByRecursion.{All-append, All-weaker}
 use Rattle.std.proofs.lemmas.List.{append-nil, length-append, get_or-append_right}
 use Rattle.std.proofs.lemmas.Bool.{cases_eq, ne_eqb}
@@ -9,7 +9,7 @@ use Rattle.reader.specs.Words.{kept, onto, pieces, rows, words}
 
 -- bytes without a stop
 abbrev Without : ℕ → List ℕ → Type 0
-Without stop bs = All (λ b. b ≡ stop → ⊥) bs
+Without stop bs = AllByRecursion (λ b. b ≡ stop → ⊥) bs
 
 -- a word is without spaces and line's ends
 unspaced : (w : List ℕ) → IsWord w → Without 32 w
@@ -48,7 +48,7 @@ words_word (b ∷ w) (c ∷ rest) is broken =
     ap (λ x. words ((b ∷ w) ++ (x ∷ rest))) broken ∙ ap kept (piece_stopped 32 (b ∷ w) rest (unspaced (b ∷ w) is) refl) ∙ ap (λ x. (b ∷ w) ∷ words (x ∷ rest)) (sym broken)
 
 -- words that stand apart follow a word
-broken_spelled : (ss : List Spaced) (end : ℕ) → All (λ s. 1 ≤ s.gap) ss → Broken (spelled ss end)
+broken_spelled : (ss : List Spaced) (end : ℕ) → AllByRecursion (λ s. 1 ≤ s.gap) ss → Broken (spelled ss end)
 broken_spelled [] zero apart = tt
 broken_spelled [] (suc n) apart = refl
 broken_spelled (s ∷ ss) end apart = go s.gap apart.0
@@ -57,12 +57,12 @@ broken_spelled (s ∷ ss) end apart = go s.gap apart.0
     go zero h = absurd (omega arith)
     go (suc n) h = refl
 
-words_spelled : (ss : List Spaced) (end : ℕ) → All (λ s. IsWord s.word) ss → Apart ss → words (spelled ss end) ≡ map (λ (s : Spaced). s.word) ss
+words_spelled : (ss : List Spaced) (end : ℕ) → AllByRecursion (λ s. IsWord s.word) ss → Apart ss → words (spelled ss end) ≡ map (λ (s : Spaced). s.word) ss
 words_spelled [] end each apart = ap words (sym (append-nil (replicate end 32))) ∙ words_spaced end []
 words_spelled (s ∷ ss) end each apart =
     words_spaced s.gap (s.word ++ spelled ss end) ∙ words_word s.word (spelled ss end) each.0 (broken_spelled ss end apart) ∙ ap (λ l. s.word ∷ l) (words_spelled ss end each.1 (later ss apart))
   where
-    later : (ts : List Spaced) → All (λ t. 1 ≤ t.gap) ts → Apart ts
+    later : (ts : List Spaced) → AllByRecursion (λ t. 1 ≤ t.gap) ts → Apart ts
     later [] all = tt
     later (t ∷ ts) all = all.1
 
@@ -71,13 +71,13 @@ spaces_unended zero = tt
 spaces_unended (suc n) = ((λ e. omega arith), spaces_unended n)
 
 -- a line does not end before its end
-spelled_unended : (ss : List Spaced) (end : ℕ) → All (λ s. IsWord s.word) ss → Without 10 (spelled ss end)
+spelled_unended : (ss : List Spaced) (end : ℕ) → AllByRecursion (λ s. IsWord s.word) ss → Without 10 (spelled ss end)
 spelled_unended [] end each = spaces_unended end
 spelled_unended (s ∷ ss) end each =
     All-append (λ b. b ≡ 10 → ⊥) (replicate s.gap 32) (s.word ++ spelled ss end) (spaces_unended s.gap) (All-append (λ b. b ≡ 10 → ⊥) s.word (spelled ss end) (unended s.word each.0) (spelled_unended ss end each.1))
 
 -- the rows of a text of lines are their words
-pub rows_text : (rs : List Row) → All Formed rs → rows (text rs) ≡ map words_of rs
+pub rows_text : (rs : List Row) → AllByRecursion Formed rs → rows (text rs) ≡ map words_of rs
 rows_text [] all = refl
 rows_text (r ∷ rs) all =
     ap (map words) (piece_stopped 10 (spelled r.words r.end) (text rs) (spelled_unended r.words r.end all.0.each) refl) ∙ ap (λ l. l ∷ rows (text rs)) (words_spelled r.words r.end all.0.each all.0.apart) ∙ ap (λ l. words_of r ∷ l) (rows_text rs all.1)
@@ -103,7 +103,7 @@ record Fronted (b : ℕ) (line : List ℕ) : Type 0 where
   spells : spelled row.words row.end ≡ b ∷ line
 
 -- a space widens the first gap, or the line's end
-with_space : (ss : List Spaced) (end : ℕ) → All (λ s. IsWord s.word) ss → Apart ss → Fronted 32 (spelled ss end)
+with_space : (ss : List Spaced) (end : ℕ) → AllByRecursion (λ s. IsWord s.word) ss → Apart ss → Fronted 32 (spelled ss end)
 with_space [] end each apart = record { row = record { words = []; end = suc end }; formed = record { each = tt; apart = tt }; spells = refl }
 with_space (s ∷ ss) end each apart =
     record {
@@ -113,7 +113,7 @@ with_space (s ∷ ss) end each apart =
     }
 
 -- another byte goes onto the first word where no space parts them, and else is a word
-with_byte : (b : ℕ) (ss : List Spaced) (end : ℕ) → (b ≡ 32 → ⊥) × (b ≡ 10 → ⊥) → All (λ s. IsWord s.word) ss → Apart ss → Fronted b (spelled ss end)
+with_byte : (b : ℕ) (ss : List Spaced) (end : ℕ) → (b ≡ 32 → ⊥) × (b ≡ 10 → ⊥) → AllByRecursion (λ s. IsWord s.word) ss → Apart ss → Fronted b (spelled ss end)
 with_byte b [] end other each apart =
     record {
       row = record { words = record { gap = 0; word = b ∷ [] } ∷ []; end = end };
@@ -139,7 +139,7 @@ with_byte b (s ∷ ss) end other each apart = go s.gap
 -- the lines of a text
 pub record Laid (bs : List ℕ) : Type 0 where
   pub rows : List Row
-  pub formed : All Formed rows
+  pub formed : AllByRecursion Formed rows
   pub written : text rows ≡ bs
 
 laid_line : (bs : List ℕ) → Laid bs → Laid (10 ∷ bs)
@@ -153,7 +153,7 @@ laid_line bs l =
 laid_front : (b : ℕ) (bs : List ℕ) → 0 < length bs → (b ≡ 10 → ⊥) → Laid bs → Laid (b ∷ bs)
 laid_front b bs some other l = go l.rows l.formed l.written
   where
-    go : (rs : List Row) → All Formed rs → text rs ≡ bs → Laid (b ∷ bs)
+    go : (rs : List Row) → AllByRecursion Formed rs → text rs ≡ bs → Laid (b ∷ bs)
     go [] formed written = let same = ap length written in absurd (omega arith)
     go (r ∷ rs) formed written =
         let each = formed.0.each in

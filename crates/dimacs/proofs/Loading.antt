@@ -1,6 +1,6 @@
 -- Loads make of a file what its document says.
 use Rattle.std.proofs.Common.{◌≡◌, ℕ, ◌≤◌, Bool, true, false, cond, ◌&&◌, leb, List, [], ◌∷◌, map, Ok, Err, Result, sym, refl, ap, ◌∙◌, subst, arith, le-leb}
-use Rattle.std.specs.List.{AllByRecursion as All}
+use Rattle.std.specs.List.{AllByRecursion}
 use Rattle.std.proofs.lemmas.Bool.{and_from, cond-true}
 use Rattle.ruler.specs.Cells.{knows}
 use Rattle.ruler.specs.Chart.{Chart, Shows, blank, course, fed}
@@ -34,7 +34,7 @@ one_leg doc legs a w =
     let passes : the_map.leg_outcome n a.from a.to a.cost ≡ Ok tt = cond-true _ _ _ ends ∙ cond-true _ _ _ size in
     ap (λ r. elim r as (λ _. Chart) [ Ok x ↦ chart n (the_map.leg_of a.from a.to a.cost ∷ legs) | Err refusal ↦ chart n legs ]) passes
 
-all_legs : (doc : Document) (legs : List the_map.Leg) (arcs : List ArcLine) → All (ArcWithin doc) arcs → course (chart doc.sites legs) (legs_of (map arc_of arcs)) ≡ chart doc.sites (laid_on legs arcs)
+all_legs : (doc : Document) (legs : List the_map.Leg) (arcs : List ArcLine) → AllByRecursion (ArcWithin doc) arcs → course (chart doc.sites legs) (legs_of (map arc_of arcs)) ≡ chart doc.sites (laid_on legs arcs)
 all_legs doc legs [] w = refl
 all_legs doc legs (a ∷ arcs) w =
     ap (λ c. course c (legs_of (map arc_of arcs))) (one_leg doc legs a w.0) ∙ all_legs doc (the_map.leg_of a.from a.to a.cost ∷ legs) arcs w.1

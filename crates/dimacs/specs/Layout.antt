@@ -1,6 +1,6 @@
 -- The layout of a file in its own terms: a document is a problem, its nodes and its arcs, and its text is lines of words.
 use Rattle.std.specs.Prelude.{◌≡◌, ℕ, ◌<◌, ◌≤◌, Bool, true, ◌⊎◌, List, [], ◌∷◌, ◌++◌, map, length, replicate, ℤ, Some, Ok, Err, Result, ◌≢◌}
-use Rattle.std.specs.List.{AllByRecursion as All}
+use Rattle.std.specs.List.{AllByRecursion}
 use Rattle.audit.specs.Questions.{allowed}
 use Rattle.dimacs.specs.declared.document.Node as the_node
 use Rattle.dimacs.specs.declared.document.Arc as the_arc
@@ -11,7 +11,7 @@ use Rattle.dimacs.specs.Scan.{Draft, supply}
 -- A word has a byte or more, and neither a space nor a line's end among them.
 pub record IsWord (w : List ℕ) : Type 0 where
   pub some : 0 < length w
-  pub unbroken : All (λ b. (b ≢ 32) × (b ≢ 10)) w
+  pub unbroken : AllByRecursion (λ b. (b ≢ 32) × (b ≢ 10)) w
 
 -- a word, and how many spaces stand in front of it
 pub record Spaced : Type 0 where
@@ -26,10 +26,10 @@ pub record Row : Type 0 where
 -- words after the first stand apart
 abbrev pub Apart : List Spaced → Type 0
 Apart [] = Unit {0}
-Apart (s ∷ ss) = All (λ t. 1 ≤ t.gap) ss
+Apart (s ∷ ss) = AllByRecursion (λ t. 1 ≤ t.gap) ss
 
 pub record Formed (r : Row) : Type 0 where
-  pub each : All (λ s. IsWord s.word) r.words
+  pub each : AllByRecursion (λ s. IsWord s.word) r.words
   pub apart : Apart r.words
 
 abbrev pub spelled : List Spaced → ℕ → List ℕ
@@ -119,7 +119,7 @@ Say (ws ∷ rest) doc = (Silent ws × Say rest doc) ⊎ (SaysProblem ws doc.site
 -- The bytes follow the layout, and say the document.
 pub record Follows (bs : List ℕ) (doc : Document) : Type 0 where
   pub rows : List Row
-  pub formed : All Formed rows
+  pub formed : AllByRecursion Formed rows
   pub written : text rows ≡ bs
   pub says : Say (map words_of rows) doc
 
@@ -135,7 +135,7 @@ nodes_of doc = map node_of doc.nodes
 
 abbrev pub Distinct : List NodeLine → Type 0
 Distinct [] = Unit {0}
-Distinct (n ∷ ns) = All (λ m. n.id ≢ m.id) ns × Distinct ns
+Distinct (n ∷ ns) = AllByRecursion (λ m. n.id ≢ m.id) ns × Distinct ns
 
 -- an id is a site of the document
 pub record OnSite (doc : Document) (id : ℕ) : Type 0 where
@@ -160,9 +160,9 @@ pub record Within (known : ℕ → Bool) (doc : Document) : Type 0 where
   pub some : 1 ≤ doc.sites
   pub few : doc.sites ≤ 64
   pub short : length doc.arcs ≤ 2000
-  pub nodes : All (NodeWithin known doc) doc.nodes
+  pub nodes : AllByRecursion (NodeWithin known doc) doc.nodes
   pub distinct : Distinct doc.nodes
-  pub arcs : All (ArcWithin doc) doc.arcs
+  pub arcs : AllByRecursion (ArcWithin doc) doc.arcs
 
 -- what a load reads of a document
 pub record Reads (d : Draft) (doc : Document) : Type 0 where

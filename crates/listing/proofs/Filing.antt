@@ -1,6 +1,6 @@
 -- A file that a map was loaded from also fills a sheet over that map, and is planned unless its currents do not balance.
 use Rattle.std.proofs.Common.{◌≡◌, ℕ, ◌≤◌, Bool, true, false, not, leb, ◌⊎◌, List, [], ◌∷◌, ◌++◌, pos, is_some, Some, None, Ok, Err, Option, Result, sym, refl, ap, ◌∙◌, subst, inl, inr, arith, le-leb}
-use Rattle.std.specs.List.{AllByRecursion as All}
+use Rattle.std.specs.List.{AllByRecursion}
 use Rattle.std.proofs.lemmas.Bool.{and_from}
 use Rattle.ruler.specs.Cells.{knows}
 use Rattle.ruler.specs.Map.{mapped}
@@ -31,7 +31,7 @@ map_knows : (map : Map) (doc : Document) (id : ℕ) → Draws map doc → OnSite
 map_knows map doc id d s =
     ap (λ n. knows n id) d.count ∙ and_from (leb 1 id) (leb id doc.sites) (le-leb 1 id s.low) (le-leb id doc.sites s.high)
 
-nodes_known : (map : Map) (doc : Document) (ns : List NodeLine) → Draws map doc → All (NodeWithin anywhere doc) ns → All (NodeWithin (mapped map).known doc) ns
+nodes_known : (map : Map) (doc : Document) (ns : List NodeLine) → Draws map doc → AllByRecursion (NodeWithin anywhere doc) ns → AllByRecursion (NodeWithin (mapped map).known doc) ns
 nodes_known map doc [] d w = tt
 nodes_known map doc (n ∷ ns) d (w, ws) =
     (record { site = w.site; flow = w.flow; knows = map_knows map doc n.id d w.site }, nodes_known map doc ns d ws)

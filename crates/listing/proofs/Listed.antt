@@ -1,6 +1,6 @@
 -- What a listing that fits answers, leaves and reads back as.
 use Rattle.std.proofs.Common.{◌≡◌, ℕ, ◌^◌, ◌<◌, ◌≤◌, Bool, true, false, cond, ltb, List, ◌++◌, length, take, drop, IfOk, Some, Ok, Err, Option, Result, sym, refl, ap, ◌∙◌, subst, zero-add, ltb-false, le-ltb}
-use Rattle.std.specs.List.{AllByRecursion as All}
+use Rattle.std.specs.List.{AllByRecursion}
 use Rattle.std.proofs.lemmas.List.{take_at}
 use Rattle.planner.specs.declared.plan.Plan.{Plan}
 use Rattle.planner.specs.Planned.{links_of}
@@ -42,7 +42,7 @@ module _ (o : Option Plan) (p : Plan) (held holds : List ℕ) (n : ℕ) (is : So
   pub list_after : holds ≡ left_in o held
   list_after = put_filled (text_of p) held holds n fits put ∙ ap (λ plan. left_in plan held) is
 
-  pub list_reads : p.area < 2 ^ 64 → All Sized (links_of p) → read_back (take n holds) ≡ told o
+  pub list_reads : p.area < 2 ^ 64 → AllByRecursion Sized (links_of p) → read_back (take n holds) ≡ told o
   list_reads area links =
       ap read_back (ap (take n) (begins (text_of p) held holds n fits put) ∙ take_at (text_of p) (drop (length (text_of p)) held) n (sym (count (text_of p) held holds n fits put)))
       ∙ listing_read p.area (links_of p) area links

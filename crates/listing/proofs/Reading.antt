@@ -1,6 +1,6 @@
 -- A listing read back is what it lists.
 use Rattle.std.proofs.Common.{◌≡◌, ℕ, ◌^◌, ◌<◌, true, cond, List, [], ◌∷◌, map, Some, None, decimal, refl, ap, ◌∙◌, arith, rules}
-use Rattle.std.specs.List.{AllByRecursion as All}
+use Rattle.std.specs.List.{AllByRecursion}
 use Rattle.std.specs.Option.{option_map}
 use Rattle.std.specs.Str.Parse.{digits_value, digits_value_after}
 use Rattle.std.specs.Str.{all_ascii_digits}
@@ -24,7 +24,7 @@ numeral_decimal n h =
 letter_word : (b : ℕ) → 32 < b → Word (b ∷ [])
 letter_word b h = (omega arith, (h, tt))
 
-rows_wires : (ls : List Link) → All Sized ls → rows (wire_lines ls) ≡ map wire_words ls
+rows_wires : (ls : List Link) → AllByRecursion Sized ls → rows (wire_lines ls) ≡ map wire_words ls
 rows_wires [] all = refl
 rows_wires (l ∷ ls) all =
     rows_line (wire_words l) (wire_lines ls)
@@ -37,13 +37,13 @@ wire_read l sized =
     ∙ ap (λ o. wire_of (both (Some l.from) (both o (numeral (decimal l.current))))) (numeral_decimal l.to sized.1)
     ∙ ap (λ o. wire_of (both (Some l.from) (both (Some l.to) o))) (numeral_decimal l.current sized.2)
 
-wires_read : (ls : List Link) → All Sized ls → read_wires (map wire_words ls) ≡ Some ls
+wires_read : (ls : List Link) → AllByRecursion Sized ls → read_wires (map wire_words ls) ≡ Some ls
 wires_read [] all = refl
 wires_read (l ∷ ls) all =
     ap (λ o. option_map (λ p. p.0 ∷ p.1) (both o (read_wires (map wire_words ls)))) (wire_read l all.0)
     ∙ ap (λ o. option_map (λ p. p.0 ∷ p.1) (both (Some l) o)) (wires_read ls all.1)
 
-pub listing_read : (a : ℕ) (ls : List Link) → a < 2 ^ 64 → All Sized ls → read_back (listing_of a ls) ≡ Some (a, ls)
+pub listing_read : (a : ℕ) (ls : List Link) → a < 2 ^ 64 → AllByRecursion Sized ls → read_back (listing_of a ls) ≡ Some (a, ls)
 listing_read a ls h all =
     ap read_rows (rows_line (area_words a) (wire_lines ls) (letter_word 115 (omega arith), (decimal_word a h, tt)))
     ∙ ap (λ rest. both (read_area (area_words a)) (read_wires rest)) (rows_wires ls all)

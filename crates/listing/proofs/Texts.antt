@@ -1,6 +1,6 @@
 -- The lines of a listing, their lengths and their parts.
 use Rattle.std.proofs.Common.{◌≡◌, ℕ, ◌+◌, ◌<◌, ◌≤◌, List, [], ◌∷◌, ◌++◌, length, get_or, drop, codes, decimal, sym, ap, ◌∙◌, subst, append_assoc, arith, length-append}
-use Rattle.std.specs.List.{AllByRecursion as All}
+use Rattle.std.specs.List.{AllByRecursion}
 use Rattle.std.proofs.lemmas.List.{at_drop_more, at_drop_all, drop_more, drop_all}
 use Rattle.planner.specs.declared.plan.Link.{Link}
 use Rattle.sheet.specs.Answers.{no_link}
@@ -35,11 +35,11 @@ module _ (ls : List Link) (i : ℕ) where
   pub wire_lines_none : length ls ≤ i → wire_lines (drop i ls) ≡ []
   wire_lines_none h = at_drop_all wire_lines ls i h
 
-  pub sized_more : i < length ls → Sized (get_or ls i no_link) → All Sized (drop (i + 1) ls) → All Sized (drop i ls)
-  sized_more h one more = subst (All Sized) (sym (drop_more ls i no_link h)) (one, more)
+  pub sized_more : i < length ls → Sized (get_or ls i no_link) → AllByRecursion Sized (drop (i + 1) ls) → AllByRecursion Sized (drop i ls)
+  sized_more h one more = subst (AllByRecursion Sized) (sym (drop_more ls i no_link h)) (one, more)
 
-  pub sized_none : length ls ≤ i → All Sized (drop i ls)
-  sized_none h = subst (All Sized) (sym (drop_all i ls h)) tt
+  pub sized_none : length ls ≤ i → AllByRecursion Sized (drop i ls)
+  sized_none h = subst (AllByRecursion Sized) (sym (drop_all i ls h)) tt
 
 -- a refusal's line as it is put
 pub length_refusal : (n l w : ℕ) → length (refusal_line n l w) ≡ 13 + length (decimal n) + length (decimal l) + length (decimal w)

@@ -2,7 +2,7 @@
 use Rattle.std.proofs.Common.{◌≡◌, ℕ, zero, suc, ◌+◌, ◌-◌, ◌<◌, ◌≤◌, cond, eqb, ◌⊎◌, List, [], ◌∷◌, length, take, ℤ, pos, ◌+ℤ◌, ◌-ℤ◌, ◌*ℤ◌, None, Option, sym, refl, ap, ◌∙◌, inl, inr, add-one, arith}
 use borrow.Author.Differences.{ints}
 use lib.IntN.{zero-*ℤ}
-use Rattle.std.specs.List.{AllByRecursion as All}
+use Rattle.std.specs.List.{AllByRecursion}
 use Rattle.std.proofs.lemmas.List.{take_all}
 use Rattle.std.proofs.lemmas.Bool.{eq-eqb, ne_eqb, cases_lt}
 use Rattle.wires.specs.declared.terminal.Terminal.{Terminal}
@@ -74,7 +74,7 @@ sum_to_none w (suc n) =
     omega (arith, ints)
 
 -- currents weighed by the row at one end, summed over the wires and over the rows
-pub carried_sum : (end : Link → ℕ) (w : ℕ → ℤ) (n : ℕ) (ls : List Link) → All (λ l. (1 ≤ end l) × (end l ≤ n)) ls → sum (λ l. pos l.current *ℤ w (end l - 1)) ls ≡ sum_to (λ i. pos (carried end ls (i + 1)) *ℤ w i) n
+pub carried_sum : (end : Link → ℕ) (w : ℕ → ℤ) (n : ℕ) (ls : List Link) → AllByRecursion (λ l. (1 ≤ end l) × (end l ≤ n)) ls → sum (λ l. pos l.current *ℤ w (end l - 1)) ls ≡ sum_to (λ i. pos (carried end ls (i + 1)) *ℤ w i) n
 carried_sum end w n [] all = sym (sum_to_none w n)
 carried_sum end w n (l ∷ ls) all =
     let ih = carried_sum end w n ls all.1 in
@@ -83,7 +83,7 @@ carried_sum end w n (l ∷ ls) all =
     omega (arith, ints)
 
 -- an id at which no wire has that end
-pub carried_none : (end : Link → ℕ) (id : ℕ) (ls : List Link) → All (λ l. end l ≡ id → ⊥) ls → carried end ls id ≡ 0
+pub carried_none : (end : Link → ℕ) (id : ℕ) (ls : List Link) → AllByRecursion (λ l. end l ≡ id → ⊥) ls → carried end ls id ≡ 0
 carried_none end id [] all = refl
 carried_none end id (l ∷ ls) all =
     let ih = carried_none end id ls all.1 in

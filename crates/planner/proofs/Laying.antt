@@ -1,7 +1,7 @@
 -- A solved case, written down by rows, is a plan.
 use Rattle.std.proofs.Common.{◌≡◌, ℕ, ◌+◌, ◌<◌, true, false, List, [], ◌++◌, replicate, pos, neg_ℤ, ◌<ℤ◌, Some, Option, sym, ap, ◌∙◌, subst, arith}
 use borrow.Author.Differences.{ints}
-use Rattle.std.specs.List.{AllByRecursion as All}
+use Rattle.std.specs.List.{AllByRecursion}
 use Rattle.std.proofs.lemmas.List.{append-nil}
 use Rattle.ruler.specs.Meaning.{Meaning}
 use Rattle.wires.specs.declared.terminal.Terminal.{Terminal}
@@ -77,5 +77,5 @@ module _ (m : Meaning) (rows : List (Option Terminal)) (sources sinks : Ends) (c
         lists : links_of p ≡ all_links sources sinks flow.flow case.sinks case.sources
         lists = drafted ∙ append-nil (all_links sources sinks flow.flow case.sinks case.sources)
 
-        on : (P : Link → Type 0) → ((i j : ℕ) → i < case.sources → j < case.sinks → 0 < cell flow.flow i j → P (link_at sources sinks flow.flow i j)) → All P (links_of p)
-        on P h = subst (All P) (sym lists) (links_all sources sinks flow.flow P case.sinks case.sources h)
+        on : (P : Link → Type 0) → ((i j : ℕ) → i < case.sources → j < case.sinks → 0 < cell flow.flow i j → P (link_at sources sinks flow.flow i j)) → AllByRecursion P (links_of p)
+        on P h = subst (AllByRecursion P) (sym lists) (links_all sources sinks flow.flow P case.sinks case.sources h)

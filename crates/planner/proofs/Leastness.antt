@@ -2,7 +2,7 @@
 use Rattle.std.proofs.Common.{◌≡◌, ℕ, ◌+◌, ◌-◌, true, not, eqb, List, [], ◌∷◌, length, ℤ, pos, ◌-ℤ◌, ◌*ℤ◌, neg_ℤ, Some, None, Option, sym, refl, ap, ◌∙◌, subst, arith}
 use borrow.Author.Differences.{ints}
 use lib.IntN.{*ℤ_comm, pos-*ℤ-pos}
-use Rattle.std.specs.List.{AllByRecursion as All}
+use Rattle.std.specs.List.{AllByRecursion}
 use Rattle.std.proofs.ByRecursion.{All-map, All-weaker}
 use Rattle.std.proofs.lemmas.Bool.{eq-eqb, not_from_false, cond-true}
 use Rattle.ruler.specs.Meaning.{Meaning, Metric}
@@ -52,7 +52,7 @@ due_laid rows s = seated_sum (λ t. share t.site s t.current) rows ∙ sum_to_sa
     at None = refl
 
 -- the area, where marks rise by just the length along every wire
-area_laid : (m : Meaning) (rows : List (Option Terminal)) (marks : List ℕ) (ls : List Link) → All (λ l. mark_of marks l.to ≡ mark_of marks l.from + m.span (site_of rows l.from) (site_of rows l.to)) ls → sum (λ l. pos l.current *ℤ (neg_ℤ (pos (mark_at marks (l.from - 1))) -ℤ neg_ℤ (pos (mark_at marks (l.to - 1))))) ls ≡ pos (area m (wires_of rows ls))
+area_laid : (m : Meaning) (rows : List (Option Terminal)) (marks : List ℕ) (ls : List Link) → AllByRecursion (λ l. mark_of marks l.to ≡ mark_of marks l.from + m.span (site_of rows l.from) (site_of rows l.to)) ls → sum (λ l. pos l.current *ℤ (neg_ℤ (pos (mark_at marks (l.from - 1))) -ℤ neg_ℤ (pos (mark_at marks (l.to - 1))))) ls ≡ pos (area m (wires_of rows ls))
 area_laid m rows marks [] tight = refl
 area_laid m rows marks (l ∷ ls) tight =
     let ih = area_laid m rows marks ls tight.1 in

@@ -1,6 +1,6 @@
 -- What a plan is: wires from sources to sinks in their order, and marks that show its area least.
 use Rattle.std.specs.Prelude.{◌≡◌, ℕ, ◌+◌, ◌-◌, ◌≤◌, Bool, true, cond, ◌&&◌, ◌||◌, List, [], ◌∷◌, map, take, pos, neg_ℤ, ◌<ℤ◌, Some, None, Option, ◌==◌, nat_lt}
-use Rattle.std.specs.List.{AllByRecursion as All}
+use Rattle.std.specs.List.{AllByRecursion}
 use Rattle.ruler.specs.Meaning.{Meaning}
 use Rattle.wires.specs.declared.terminal.Terminal.{Terminal}
 use Rattle.wires.specs.declared.wire.Wire.{Wire}
@@ -62,7 +62,7 @@ received ls id = total (λ l. cond (l.to == id) l.current 0) ls
 
 -- Which least list a plan picks and which marks are undecided; these are their properties.
 pub record Planned (m : Meaning) (rows : List (Option Terminal)) (p : Plan) : Type 0 where
-  pub runs : All (Runs rows) (links_of p)
+  pub runs : AllByRecursion (Runs rows) (links_of p)
   pub order : Ascending (links_of p)
   -- every source sends exactly its current, and every sink receives exactly its own
   pub sends : (i : ℕ) (t : Terminal) → row_at rows i ≡ Some t → pos 0 <ℤ t.current → pos (sent (links_of p) (i + 1)) ≡ t.current
@@ -70,7 +70,7 @@ pub record Planned (m : Meaning) (rows : List (Option Terminal)) (p : Plan) : Ty
   -- marks that audit accepts, and that rise by just the length along every wire
   pub fit : marks_fit rows p.marks ≡ None
   pub reach : marks_reach m rows p.marks ≡ None
-  pub tight : All (λ l. mark_of p.marks l.to ≡ mark_of p.marks l.from + m.span (site_of rows l.from) (site_of rows l.to)) (links_of p)
+  pub tight : AllByRecursion (λ l. mark_of p.marks l.to ≡ mark_of p.marks l.from + m.span (site_of rows l.from) (site_of rows l.to)) (links_of p)
   pub area_is : p.area ≡ area m (wires_of rows (links_of p))
 
 -- what holds of a plan, where there is one

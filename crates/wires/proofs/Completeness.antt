@@ -1,7 +1,7 @@
 -- Every least list has marks whose value is its area: heights, shifted so that the lowest terminal stands at 0.
 use Rattle.std.proofs.Common.{◌≡◌, ℕ, ◌+◌, ◌≤◌, List, [], ◌∷◌, map, ℤ, pos, negsuc, ◌-ℤ◌, ◌*ℤ◌, neg_ℤ, nat_abs, ◌≤ℤ◌, refl, ap, arith}
 use borrow.Author.Differences.{ints}
-use Rattle.std.specs.List.{AllByRecursion as All}
+use Rattle.std.specs.List.{AllByRecursion}
 use Rattle.std.proofs.ByRecursion.{All-map, All-weaker}
 use Rattle.ruler.specs.Meaning.{Meaning, Metric}
 use Rattle.wires.specs.declared.terminal.Terminal.{Terminal}
@@ -29,7 +29,7 @@ terminals_pinned : (mark : Terminal → ℕ) (ts : List Terminal) → terminals 
 terminals_pinned mark [] = refl
 terminals_pinned mark (t ∷ ts) = ap (λ xs. t ∷ xs) (terminals_pinned mark ts)
 
-value_pinned : (mark : Terminal → ℕ) (g : ℕ → ℤ) (ts : List Terminal) → All (λ t. pos (mark t) ≡ g t.site) ts → value (pinned mark ts) ≡ neg_ℤ (sum (λ t. t.current *ℤ g t.site) ts)
+value_pinned : (mark : Terminal → ℕ) (g : ℕ → ℤ) (ts : List Terminal) → AllByRecursion (λ t. pos (mark t) ≡ g t.site) ts → value (pinned mark ts) ≡ neg_ℤ (sum (λ t. t.current *ℤ g t.site) ts)
 value_pinned mark g [] all = refl
 value_pinned mark g (t ∷ ts) all =
     let e = neg_mul t.current (pos (mark t)) in
@@ -44,13 +44,13 @@ certified m ts ws meets h from_0 up_to = record { pins = pinned mark ts; marked 
     mark : Terminal → ℕ
     mark t = nat_abs (h.height t.site)
 
-    here : All (λ t. In t.site (seats ts)) ts
+    here : AllByRecursion (λ t. In t.site (seats ts)) ts
     here = seats_in ts ts (λ u i. i)
 
     mark_is : (t : Terminal) → In t.site (seats ts) → pos (mark t) ≡ h.height t.site
     mark_is t i = pos_nat_abs (h.height t.site) (from_0 t.site i)
 
-    each : (P : Pin → Type 0) → ((t : Terminal) → In t.site (seats ts) → P (record { terminal = t; mark = mark t })) → All P (pinned mark ts)
+    each : (P : Pin → Type 0) → ((t : Terminal) → In t.site (seats ts) → P (record { terminal = t; mark = mark t })) → AllByRecursion P (pinned mark ts)
     each P holds =
         let pin : Terminal → Pin = λ t. record { terminal = t; mark = mark t } in
         All-map P pin ts (All-weaker (λ t. In t.site (seats ts)) (λ t. P (pin t)) holds ts here)
@@ -66,7 +66,7 @@ certified m ts ws meets h from_0 up_to = record { pins = pinned mark ts; marked 
         omega (arith, ints)
 
     feasible : Feasible m (pinned mark ts)
-    feasible = each (λ a. All (Reaches m a) (pinned mark ts)) (λ a i. each (Reaches m (record { terminal = a; mark = mark a })) (λ b j. reaches a b i j))
+    feasible = each (λ a. AllByRecursion (Reaches m a) (pinned mark ts)) (λ a i. each (Reaches m (record { terminal = a; mark = mark a })) (λ b j. reaches a b i j))
 
     tight : value (pinned mark ts) ≡ pos (area m ws)
     tight =

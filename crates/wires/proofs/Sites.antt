@@ -1,6 +1,6 @@
 -- Lists of sites: those of terminals, and those that wires leave and reach.
 use Rattle.std.proofs.Common.{◌≡◌, ℕ, true, ◌⊎◌, List, [], ◌∷◌, ◌++◌, map, sym, refl, subst, inl, inr}
-use Rattle.std.specs.List.{AllByRecursion as All}
+use Rattle.std.specs.List.{AllByRecursion}
 use Rattle.std.proofs.ByRecursion.{All-append, All-map}
 use Rattle.ruler.specs.Meaning.{Meaning}
 use Rattle.wires.specs.declared.terminal.Terminal.{Terminal}
@@ -31,12 +31,12 @@ pub in_right : (u : ℕ) (xs ys : List ℕ) → In u ys → In u (xs ++ ys)
 in_right u [] ys i = i
 in_right u (x ∷ xs) ys i = inr (in_right u xs ys i)
 
-all_in : (P : ℕ → Type 0) (xs : List ℕ) → All P xs → (u : ℕ) → In u xs → P u
+all_in : (P : ℕ → Type 0) (xs : List ℕ) → AllByRecursion P xs → (u : ℕ) → In u xs → P u
 all_in P [] all u i = absurd i
 all_in P (x ∷ xs) all u (inl e) = subst P (sym e) all.0
 all_in P (x ∷ xs) all u (inr i) = all_in P xs all.1 u i
 
-known_ends : (m : Meaning) (ws : List Wire) → Over m ws → All (λ s. m.known s ≡ true) (ends ws)
+known_ends : (m : Meaning) (ws : List Wire) → Over m ws → AllByRecursion (λ s. m.known s ≡ true) (ends ws)
 known_ends m [] over = tt
 known_ends m (w ∷ ws) over = (over.0.leaves, (over.0.arrives, known_ends m ws over.1))
 
@@ -46,6 +46,6 @@ known_sites m ts ws seated over =
     all_in known (sites ts ws) (All-append known (seats ts) (ends ws) (All-map known (λ (t : Terminal). t.site) ts seated) (known_ends m ws over))
 
 -- each terminal's site is among them
-pub seats_in : (ts xs : List Terminal) → ((u : ℕ) → In u (seats xs) → In u (seats ts)) → All (λ t. In t.site (seats ts)) xs
+pub seats_in : (ts xs : List Terminal) → ((u : ℕ) → In u (seats xs) → In u (seats ts)) → AllByRecursion (λ t. In t.site (seats ts)) xs
 seats_in ts [] h = tt
 seats_in ts (x ∷ xs) h = (h x.site (inl refl), seats_in ts xs (λ u i. h u (inr i)))

@@ -2,7 +2,7 @@
 use Rattle.std.proofs.Common.{◌≡◌, ℕ, ◌+◌, ◌-◌, ◌*◌, ◌≤◌, max, true, List, [], ◌∷◌, pos, ◌-ℤ◌, ◌*ℤ◌, neg_ℤ, ◌≤ℤ◌, ap, ◌∙◌, arith}
 use borrow.Author.Differences.{ints}
 use lib.IntN.{pos-*ℤ-pos}
-use Rattle.std.specs.List.{AllByRecursion as All}
+use Rattle.std.specs.List.{AllByRecursion}
 use Rattle.std.proofs.ByRecursion.{All-weaker}
 use Rattle.ruler.specs.Meaning.{Meaning, Metric}
 use Rattle.wires.specs.declared.wire.Wire.{Wire}
@@ -26,19 +26,19 @@ steep m law (p ∷ ps) seats u v ku kv =
     let d = law.detour u v p.terminal.site ku kv seats.0 in
     omega arith
 
-height_most : (m : Meaning) (ps : List Pin) (v x : ℕ) → All (λ p. p.mark ≤ x + m.span v p.terminal.site) ps → height m ps v ≤ x
+height_most : (m : Meaning) (ps : List Pin) (v x : ℕ) → AllByRecursion (λ p. p.mark ≤ x + m.span v p.terminal.site) ps → height m ps v ≤ x
 height_most m [] v x h = omega arith
 height_most m (p ∷ ps) v x h =
     let ih = height_most m ps v x h.1 in
     let a = h.0 in
     omega arith
 
-height_least : (m : Meaning) (f : ℕ → ℕ) (ps : List Pin) → ((v : ℕ) → height m ps v ≤ f v) → All (λ p. (v : ℕ) → p.mark ≤ f v + m.span v p.terminal.site) ps
+height_least : (m : Meaning) (f : ℕ → ℕ) (ps : List Pin) → ((v : ℕ) → height m ps v ≤ f v) → AllByRecursion (λ p. (v : ℕ) → p.mark ≤ f v + m.span v p.terminal.site) ps
 height_least m f [] h = tt
 height_least m f (p ∷ ps) h = (λ v. omega (arith, h v), height_least m f ps (λ v. omega (arith, h v)))
 
 -- pins whose marks are the heights at their sites: weighed by the heights, the currents give the value
-weighed : (m : Meaning) → Metric m → (f : ℕ → ℕ) (qs : List Pin) → Seated m (terminals qs) → All (λ q. (f q.terminal.site) ≤ q.mark) qs → All (λ q. (v : ℕ) → q.mark ≤ f v + m.span v q.terminal.site) qs → sum (λ t. t.current *ℤ pos (f t.site)) (terminals qs) ≡ neg_ℤ (value qs)
+weighed : (m : Meaning) → Metric m → (f : ℕ → ℕ) (qs : List Pin) → Seated m (terminals qs) → AllByRecursion (λ q. (f q.terminal.site) ≤ q.mark) qs → AllByRecursion (λ q. (v : ℕ) → q.mark ≤ f v + m.span v q.terminal.site) qs → sum (λ t. t.current *ℤ pos (f t.site)) (terminals qs) ≡ neg_ℤ (value qs)
 weighed m law f [] seats most least = omega (arith, ints)
 weighed m law f (q ∷ qs) seats most least =
     let ih = weighed m law f qs seats.1 most.1 least.1 in
@@ -65,7 +65,7 @@ pub bounded : (m : Meaning) → Metric m → (ws : List Wire) → Bounded m ws (
 bounded m law ws k ps seats fair over meets =
     let f = height m ps in
     let low = height_least m f ps (λ v. omega arith) in
-    let high = All-weaker (λ a. All (Reaches m a) ps) (λ a. f a.terminal.site ≤ a.mark) (λ a h. height_most m ps a.terminal.site a.mark h) ps fair in
+    let high = All-weaker (λ a. AllByRecursion (Reaches m a) ps) (λ a. f a.terminal.site ≤ a.mark) (λ a h. height_most m ps a.terminal.site a.mark h) ps fair in
     let t = weighed m law f ps seats high low in
     let g = gained m f (steep m law ps seats) ws over in
     let e = pairing (λ v. pos (f v)) k (terminals ps) ws meets in

@@ -1,6 +1,6 @@
 -- What marks say about areas: the theorems that the contracts of this crate demand.
 use Rattle.std.specs.Prelude.{◌≡◌, ℕ, ◌≤◌, ◌↔◌, List, ℤ, pos, ◌*ℤ◌, ◌≤ℤ◌}
-use Rattle.std.specs.List.{AllByRecursion as All}
+use Rattle.std.specs.List.{AllByRecursion}
 use Rattle.ruler.specs.Meaning.{Meaning}
 use Rattle.wires.specs.declared.terminal.Terminal.{Terminal}
 use Rattle.wires.specs.declared.wire.Wire.{Wire}
@@ -19,7 +19,7 @@ Certified m ws a = (ps : List Pin) → Seated m (terminals ps) → Feasible m ps
 pub record Certificate (m : Meaning) (ts : List Terminal) (a : ℕ) : Type 0 where
   pub pins : List Pin
   pub marked : terminals pins ≡ ts
-  pub within : All (λ p. p.mark ≤ 4000000) pins
+  pub within : AllByRecursion (λ p. p.mark ≤ 4000000) pins
   pub feasible : Feasible m pins
   pub tight : value pins ≡ pos a
 

@@ -1,6 +1,6 @@
 -- Marks, one a terminal: the numbers by which a reader confirms a least list.
 use Rattle.std.specs.Prelude.{ℕ, ◌+◌, ◌≤◌, List, map, ℤ, pos, ◌*ℤ◌, neg_ℤ}
-use Rattle.std.specs.List.{AllByRecursion as All}
+use Rattle.std.specs.List.{AllByRecursion}
 use Rattle.ruler.specs.Meaning.{Meaning}
 use Rattle.wires.specs.declared.terminal.Terminal.{Terminal}
 use Rattle.wires.specs.Sums.{sum}
@@ -18,7 +18,7 @@ abbrev pub Reaches : Meaning → Pin → Pin → Type 0
 Reaches m a b = b.mark ≤ a.mark + m.span a.terminal.site b.terminal.site
 
 abbrev pub Feasible : Meaning → List Pin → Type 0
-Feasible m ps = All (λ a. All (Reaches m a) ps) ps
+Feasible m ps = AllByRecursion (λ a. AllByRecursion (Reaches m a) ps) ps
 
 -- taken current × mark over the sinks, less given current × mark over the sources
 abbrev pub worth : Pin → ℤ

@@ -1,6 +1,6 @@
 -- Lists of wires: net, meeting, area, least.
 use Rattle.std.specs.Prelude.{◌≡◌, ℕ, ◌*◌, ◌≤◌, Bool, true, cond, ◌&&◌, List, [], ◌∷◌, ℤ, pos, ◌-ℤ◌, ◌*ℤ◌, Some, None, Option, ◌==◌}
-use Rattle.std.specs.List.{AllByRecursion as All}
+use Rattle.std.specs.List.{AllByRecursion}
 use Rattle.ruler.specs.Meaning.{Meaning}
 use Rattle.wires.specs.declared.terminal.Terminal.{Terminal}
 use Rattle.wires.specs.declared.wire.Wire.{Wire}
@@ -33,11 +33,11 @@ pub record Lies (m : Meaning) (w : Wire) : Type 0 where
 
 -- a list of wires through known sites; its currents are any whole numbers from 0
 abbrev pub Over : Meaning → List Wire → Type 0
-Over m ws = All (Lies m) ws
+Over m ws = AllByRecursion (Lies m) ws
 
 -- the sites of the terminals are known
 abbrev pub Seated : Meaning → List Terminal → Type 0
-Seated m ts = All (λ t. m.known t.site ≡ true) ts
+Seated m ts = AllByRecursion (λ t. m.known t.site ≡ true) ts
 
 -- the metal of one wire, and of a list
 abbrev pub metal : Meaning → Wire → ℕ

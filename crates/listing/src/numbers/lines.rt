@@ -1,6 +1,6 @@
 // The lines of a plan, counted first, so that a buffer too short for them stays as it was.
 ghost use Rattle.std.specs.Prelude.{◌≡◌, ◌+◌, ◌≤◌, length, take, IfOk};
-ghost use Rattle.std.specs.List.{AllByRecursion as All};
+ghost use Rattle.std.specs.List.{AllByRecursion};
 ghost use Rattle.listing.specs.Listing.{Put, Sized, area_words, left_in, line_of, listed, listing_of, wire_line, wire_lines};
 ghost use Rattle.listing.specs.Reading.{read_back, told};
 
@@ -32,7 +32,7 @@ fn link_length(link: &Link) -> usize
 fn text_length(area: u64, links: &[Link]) -> usize
     requires { length links.now ≤ 1024 }
     ensures count { result ≡ length (listing_of area links.now) }
-    ensures sized { All Sized links.now }
+    ensures sized { AllByRecursion Sized links.now }
 {
     let mut count = digits_of(area) + 3;
     for link in links {

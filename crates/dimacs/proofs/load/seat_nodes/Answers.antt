@@ -6,7 +6,7 @@ use Rattle.dimacs.proofs.load.seat_nodes.Goals as goal
 
 pub loop-i-preserved : goal.loop-i-preserved
 loop-i-preserved g c =
-    let made = c.seat-node.ensures in
+    let made = c.seat_node.ensures in
     let so = c.loop-i.invariant in
     (made.same ∙ so.0, seated_more g.R.Ruler.meaning c.args.sheet.now.ruler _ _ _ _ c.args.nodes.now c.loop-i.i _ c.loop-i-test.true so.0 so.1 made.ledger made.plan, λ before. made.law (so.2 before))
 

@@ -105,7 +105,7 @@ impl Draft {
     }
 
     fn node_question<S: Sites>(&self, sites: &S, line: usize, id: u64, flow: i64) -> Option<Refusal>
-        ensures asked { result ≡ node_asked (known sites.now) line (draft_of self.now) id flow }
+        ensures asked { result ≡ node_asked (S.known sites.now) line (draft_of self.now) id flow }
         ensures bounds { result ≡ None → (1 ≤ id) × (id ≤ 64) × (taken (draft_of self.now).nodes id ≡ false) × (allowed flow ≡ true) }
     {
         if self.problem.is_none() || self.lines != 0 {
@@ -192,7 +192,7 @@ impl Draft {
         flow: i64,
     ) -> Result<(), Refusal>
         ensures lines { self.new.lines ≡ self.old.lines }
-        ensures entry { left_by result (draft_of self.new) ≡ outcome (node_asked (known sites.now) line (draft_of self.old) id flow) (with_node (draft_of self.old) id flow) }
+        ensures entry { left_by result (draft_of self.new) ≡ outcome (node_asked (S.known sites.now) line (draft_of self.old) id flow) (with_node (draft_of self.old) id flow) }
     {
         if let Some(refusal) = self.node_question(sites, line, id, flow) {
             return Err(refusal);

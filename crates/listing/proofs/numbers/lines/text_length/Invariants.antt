@@ -1,5 +1,5 @@
 use Rattle.std.proofs.Common.{◌≡◌, ◌+◌, ◌*◌, ◌≤◌, length, drop}
-use Rattle.std.specs.List.{AllByRecursion as All}
+use Rattle.std.specs.List.{AllByRecursion}
 use Rattle.listing.specs.Listing.{listing_of, wire_lines, Sized}
 use Rattle.listing.proofs.numbers.lines.text_length.Given as goal
 
@@ -8,4 +8,4 @@ abbrev pub invariant-loop-link : goal.invariant-loop-link
 invariant-loop-link l =
     (l.count + length (wire_lines (drop l.link-index l.links)) ≡ length (listing_of l.area l.links))
     × (l.count ≤ 23 + 65 * l.link-index)
-    × (All Sized (drop l.link-index l.links) → All Sized l.links)
+    × (AllByRecursion Sized (drop l.link-index l.links) → AllByRecursion Sized l.links)

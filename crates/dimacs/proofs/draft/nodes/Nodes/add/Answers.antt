@@ -29,8 +29,8 @@ module _ (ns : Nodes) (n : Node) (low : 1 ≤ n.id) (high : n.id ≤ 64) (free :
 pub bounds-self-self : goal.bounds-self-self
 bounds-self-self c = room c.args.self.now c.args.node c.if-node-lt1.false c.if-node-gt64.false c.if-has.ensures
 
-pub invariant-of-self : goal.invariant-of-self
-invariant-of-self c =
+pub invariant_of-self : goal.invariant_of-self
+invariant_of-self c =
     let ns = c.args.self.now in
     let few = room ns c.args.node c.if-node-lt1.false c.if-node-gt64.false c.if-has.ensures in
     record {

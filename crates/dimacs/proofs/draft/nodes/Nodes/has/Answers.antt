@@ -5,15 +5,15 @@ use Rattle.dimacs.proofs.draft.nodes.Nodes.has.Goals as goal
 
 pub returns-then-node-id : goal.returns-then-node-id
 returns-then-node-id c =
-    let nodes = c.as-slice-nodes.result.now in
+    let nodes = c.as_slice-nodes.result.now in
     let i = c.loop-node.node-index in
     let id = c.args.id in
     let rest = taken (drop (i + 1) nodes) id in
-    sym (ap (λ l. taken l id) (sym c.as-slice-nodes.ensures.value) ∙ c.loop-node.invariant ∙ at_drop_more (λ l. taken l id) nodes i _ c.loop-node-test.true ∙ ap (λ b. b || rest) (eq-eqb _ id c.if-node-id.true))
+    sym (ap (λ l. taken l id) (sym c.as_slice-nodes.ensures.value) ∙ c.loop-node.invariant ∙ at_drop_more (λ l. taken l id) nodes i _ c.loop-node-test.true ∙ ap (λ b. b || rest) (eq-eqb _ id c.if-node-id.true))
 
 pub loop-node-preserved : goal.loop-node-preserved
 loop-node-preserved c =
-    let nodes = c.as-slice-nodes.result.now in
+    let nodes = c.as_slice-nodes.result.now in
     let i = c.loop-node.node-index in
     let id = c.args.id in
     let rest = taken (drop (i + 1) nodes) id in
@@ -21,5 +21,5 @@ loop-node-preserved c =
 
 pub returns : goal.returns
 returns c =
-    let nodes = c.as-slice-nodes.result.now in
-    sym (ap (λ l. taken l c.args.id) (sym c.as-slice-nodes.ensures.value) ∙ c.loop-node.invariant ∙ at_drop_all (λ l. taken l c.args.id) nodes c.loop-node.node-index c.loop-node-test.false)
+    let nodes = c.as_slice-nodes.result.now in
+    sym (ap (λ l. taken l c.args.id) (sym c.as_slice-nodes.ensures.value) ∙ c.loop-node.invariant ∙ at_drop_all (λ l. taken l c.args.id) nodes c.loop-node.node-index c.loop-node-test.false)

@@ -5,7 +5,7 @@ use Rattle.dimacs.proofs.draft.nodes.Nodes.supply.Goals as goal
 
 pub loop-node-preserved : goal.loop-node-preserved
 loop-node-preserved c =
-    let nodes = c.as-slice-nodes.result.now in
+    let nodes = c.as_slice-nodes.result.now in
     let step : supply (drop c.loop-node.node-index nodes) ≡ c.given-sum.result + supply (drop (c.loop-node.node-index + 1) nodes) = at_drop_more supply nodes c.loop-node.node-index _ c.loop-node-test.true ∙ ap (λ x. x + supply (drop (c.loop-node.node-index + 1) nodes)) (sym c.given-sum.ensures.value) in
     let so = c.loop-node.invariant.0 in
     let bound = c.loop-node.invariant.1 in
@@ -14,8 +14,8 @@ loop-node-preserved c =
 
 pub returns : goal.returns
 returns c =
-    let nodes = c.as-slice-nodes.result.now in
+    let nodes = c.as_slice-nodes.result.now in
     let none : supply (drop c.loop-node.node-index nodes) ≡ 0 = at_drop_all supply nodes c.loop-node.node-index c.loop-node-test.false in
     let so = c.loop-node.invariant.0 in
-    let all = ap supply c.as-slice-nodes.ensures.value in
+    let all = ap supply c.as_slice-nodes.ensures.value in
     omega arith

@@ -25,7 +25,7 @@ impl Draft {
     // Enters what a line says.
     fn enter<S: Sites>(&mut self, sites: &S, line: usize, said: Line) -> Result<(), Refusal>
         requires { self.old.lines < 2 ^ 32 }
-        ensures entry { left_by result (draft_of self.new) ≡ entered (known sites.now) line (draft_of self.old) said }
+        ensures entry { left_by result (draft_of self.new) ≡ entered (S.known sites.now) line (draft_of self.old) said }
         ensures lines { self.new.lines ≤ self.old.lines + 1 }
     {
         match said {
@@ -59,7 +59,7 @@ impl Draft {
 
 // The lines of a file, entered one after another.
 fn scan_lines<S: Sites>(file: &[u8], sites: &S) -> Result<Draft, Refusal>
-    ensures { given_by result ≡ scanned (known sites.now) file.now }
+    ensures { given_by result ≡ scanned (S.known sites.now) file.now }
 {
     if !is_well_formed(file) {
         return Err(refused(Fault::FileForm, 0, 0));
@@ -78,8 +78,8 @@ fn scan_lines<S: Sites>(file: &[u8], sites: &S) -> Result<Draft, Refusal>
 
 // The contents of a file, or the first refusal.
 pub fn scan<S: Sites>(file: &[u8], sites: &S) -> Result<Draft, Refusal>
-    ensures answer { given_by result ≡ scanned (known sites.now) file.now }
-    ensures document { Exact (known sites.now) file.now (given_by result) }
+    ensures answer { given_by result ≡ scanned (S.known sites.now) file.now }
+    ensures document { Exact (S.known sites.now) file.now (given_by result) }
 {
     scan_lines(file, sites)
 }

@@ -7,6 +7,6 @@ pub returns : goal.returns
 returns g c =
     let known = g.S.Sites.known c.args.sites.now in
     record {
-      answer = c.scan-lines.ensures;
-      document = subst (Exact known c.args.file.now) (sym c.scan-lines.ensures) (exact known c.args.file.now);
+      answer = c.scan_lines.ensures;
+      document = subst (Exact known c.args.file.now) (sym c.scan_lines.ensures) (exact known c.args.file.now);
     }
