@@ -1,5 +1,5 @@
 -- Loads make of a file what its document says.
-use Rattle.std.proofs.Common.{◌≡◌, ℕ, ◌≤◌, Bool, true, false, cond, ◌&&◌, leb, List, [], ◌∷◌, map, Ok, Err, Result, sym, refl, ap, ◌∙◌, subst, arith, le-leb}
+use Rattle.std.proofs.Common.{◌≡◌, ℕ, Bool, true, false, cond, leb, List, [], ◌∷◌, map, Ok, Err, Result, sym, refl, ap, ◌∙◌, subst, arith, le-leb}
 use Rattle.std.specs.List.{AllByRecursion}
 use Rattle.std.proofs.lemmas.Bool.{and_from, cond-true}
 use Rattle.ruler.specs.Cells.{knows}
@@ -8,12 +8,11 @@ use Rattle.ruler.specs.Map as the_map
 use Rattle.ruler.specs.Meaning.{Meaning}
 use Rattle.ruler.specs.declared.map.Map.{Map}
 use Rattle.ruler.specs.declared.map.table.run.Step.TheVariants.{Begin, Leg}
-use Rattle.ruler.specs.declared.refusal.Refusal as why
 use Rattle.sheet.specs.Questions.{bare}
 use Rattle.sheet.specs.declared.net.Net.{Net}
 use Rattle.reader.specs.declared.refusal.Fault.TheVariants.{SheetInUse}
 use Rattle.reader.specs.declared.refusal.Refusal.{Refusal}
-use Rattle.dimacs.specs.Layout.{ArcLine, ArcWithin, Document, LawfulFile, OnSite, Reads, Within, arc_of, nodes_of}
+use Rattle.dimacs.specs.Layout.{ArcLine, ArcWithin, Document, OnSite, Reads, Within, arc_of}
 use Rattle.dimacs.specs.Loads.{Draws, LoadsMap, LoadsSheet, MapAfter, NetAfter, Seated, anywhere, done, laid_on, legs_of, seats_of, sheet_scanned, steps_of}
 use Rattle.reader.specs.Refusals.{refused}
 use Rattle.dimacs.specs.Scan.{Draft, scanned, sites_of}

@@ -1,5 +1,5 @@
 -- What a draft of the code holds.
-use Rattle.std.specs.Prelude.{ℕ, List, take, Ok, Err, Result}
+use Rattle.std.specs.Prelude.{List, take, Ok, Err, Result}
 use Rattle.dimacs.specs.declared.document.Node.{Node}
 use Rattle.dimacs.specs.declared.draft.Draft as held
 use Rattle.dimacs.specs.declared.draft.nodes.Nodes.{Nodes}

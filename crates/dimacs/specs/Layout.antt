@@ -1,5 +1,5 @@
 -- The layout of a file in its own terms: a document is a problem, its nodes and its arcs, and its text is lines of words.
-use Rattle.std.specs.Prelude.{◌≡◌, ℕ, ◌<◌, ◌≤◌, Bool, true, ◌⊎◌, List, [], ◌∷◌, ◌++◌, map, length, replicate, ℤ, Some, Ok, Err, Result, ◌≢◌}
+use Rattle.std.specs.Prelude.{◌≡◌, ℕ, ◌<◌, ◌≤◌, Bool, true, ◌⊎◌, List, [], ◌∷◌, ◌++◌, map, length, replicate, ℤ, Some, Ok, Result, ◌≢◌}
 use Rattle.std.specs.List.{AllByRecursion}
 use Rattle.audit.specs.Questions.{allowed}
 use Rattle.dimacs.specs.declared.document.Node as the_node

@@ -1,6 +1,6 @@
 -- What the loads make of a file's contents.
 use Rattle.std.specs.Prelude.{◌≡◌, ℕ, Bool, true, cond, List, [], ◌∷◌, map, None, Ok, Err, Option, Result}
-use Rattle.ruler.specs.Chart.{Chart, Shows, blank, course}
+use Rattle.ruler.specs.Chart.{Shows, blank, course}
 use Rattle.ruler.specs.Map as the_map
 use Rattle.ruler.specs.Meaning.{Meaning}
 use Rattle.ruler.specs.declared.map.Map.{Map}

@@ -1,5 +1,5 @@
 -- The nodes that a file may have: distinct ids from 1 to 64.
-use Rattle.std.specs.Prelude.{◌≡◌, ℕ, Bool, true, cond, not, ◌&&◌, List, [], ◌∷◌, ◌++◌, nat_le}
+use Rattle.std.specs.Prelude.{ℕ, Bool, true, cond, not, ◌&&◌, List, [], ◌∷◌, ◌++◌, nat_le}
 use Rattle.dimacs.specs.declared.document.Node.{Node}
 use Rattle.dimacs.specs.Scan.{taken}
 

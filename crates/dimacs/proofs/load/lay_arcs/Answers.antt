@@ -1,6 +1,6 @@
-use Rattle.std.proofs.Common.{◌≡◌, take, sym, ap, ◌∙◌, subst}
+use Rattle.std.proofs.Common.{take, sym, ap, ◌∙◌, subst}
 use Rattle.std.proofs.lemmas.List.{map_more, take_all}
-use Rattle.ruler.specs.Chart.{Chart, Shows, course, fed}
+use Rattle.ruler.specs.Chart.{Shows, course}
 use Rattle.ruler.proofs.Charts.{course_push}
 use Rattle.dimacs.specs.Loads.{leg_step, legs_of}
 use Rattle.dimacs.proofs.load.lay_arcs.Goals as goal
