@@ -1,5 +1,5 @@
 -- A file that a map was loaded from also fills a sheet over that map, and is planned unless its currents do not balance.
-use Rattle.std.proofs.Common.{◌≡◌, ℕ, ◌≤◌, Bool, true, false, not, leb, ◌⊎◌, List, [], ◌∷◌, ◌++◌, pos, is_some, Some, None, Ok, Err, Option, Result, sym, refl, ap, ◌∙◌, subst, inl, inr, arith, le-leb}
+use Rattle.std.proofs.Common.{◌≡◌, ℕ, Bool, true, false, not, leb, List, [], ◌∷◌, pos, is_some, Some, None, Ok, Err, Option, Result, sym, refl, ap, ◌∙◌, inr, arith, le-leb}
 use Rattle.std.specs.List.{AllByRecursion}
 use Rattle.std.proofs.lemmas.Bool.{and_from}
 use Rattle.ruler.specs.Cells.{knows}
@@ -20,11 +20,11 @@ use Rattle.sheet.specs.declared.call.Call.TheVariants.{Plan}
 use Rattle.sheet.specs.declared.net.Net.{Net}
 use Rattle.sheet.proofs.Courses.{course_push}
 use Rattle.dimacs.specs.Layout.{Document, LawfulFile, NodeLine, NodeWithin, OnSite, nodes_of}
-use Rattle.dimacs.specs.Loads.{Draws, LoadsMap, LoadsSheet, Seated, anywhere, seats_of}
+use Rattle.dimacs.specs.Loads.{Draws, LoadsMap, LoadsSheet, anywhere, seats_of}
 use Rattle.reader.specs.Refusals.{refused}
 use Rattle.reader.specs.declared.refusal.Fault.TheVariants.{Terminal}
 use Rattle.reader.specs.declared.refusal.Refusal as file
-use Rattle.listing.specs.Files.{Planned, Refused, Unplanned, calls_of}
+use Rattle.listing.specs.Files.{Planned, Refused}
 
 -- the map of a document knows its sites
 map_knows : (map : Map) (doc : Document) (id : ℕ) → Draws map doc → OnSite doc id → knows map.sites id ≡ true

@@ -4,26 +4,26 @@ use Rattle.listing.proofs.Decimals.{last_digit, length_digit, length_step, only_
 use Rattle.listing.proofs.Placing.{put_then}
 use Rattle.listing.proofs.numbers.+put_number.Goals as goal
 
-pub put-byte-requires : goal.put-byte-requires
-put-byte-requires t c = omega (arith, length_digit c.args.number (omega arith))
+pub put_byte-requires : goal.put_byte-requires
+put_byte-requires t c = omega (arith, length_digit c.args.number (omega arith))
 
 pub returns-then-number-lt10 : goal.returns-then-number-lt10
 returns-then-number-lt10 t c =
-    let P : List ℕ → Type 0 = λ ds. Put c.args.out.now c.args.at ds c.put-byte.new.out c.put-byte.result in
-    subst P (only_digit c.args.number _ (omega arith) c.last_digit.ensures) c.put-byte.ensures
+    let P : List ℕ → Type 0 = λ ds. Put c.args.out.now c.args.at ds c.put_byte.new.out c.put_byte.result in
+    subst P (only_digit c.args.number _ (omega arith) c.last_digit.ensures) c.put_byte.ensures
 
-pub put-number-next-requires : goal.put-number-next-requires
-put-number-next-requires t c =
+pub put_number-next-requires : goal.put_number-next-requires
+put_number-next-requires t c =
     let step = length_step c.args.number (omega arith) (omega arith) in
     (omega arith, omega arith)
 
-pub put-byte-requires-2 : goal.put-byte-requires-2
-put-byte-requires-2 t c =
+pub put_byte-requires-2 : goal.put_byte-requires-2
+put_byte-requires-2 t c =
     let step = length_step c.args.number (omega arith) (omega arith) in
-    omega (arith, c.put-number-next.ensures.end)
+    omega (arith, c.put_number-next.ensures.end)
 
 pub returns : goal.returns
 returns t c =
-    let P : List ℕ → Type 0 = λ ds. Put c.args.out.now c.args.at ds c.put-byte-2.new.out c.put-byte-2.result in
-    subst P (last_digit c.args.number _ (omega arith) (omega arith) c.last-digit-2.ensures)
-    (put_then (omega arith) c.put-number-next.ensures c.put-byte-2.ensures)
+    let P : List ℕ → Type 0 = λ ds. Put c.args.out.now c.args.at ds c.put_byte-2.new.out c.put_byte-2.result in
+    subst P (last_digit c.args.number _ (omega arith) (omega arith) c.last_digit-2.ensures)
+    (put_then (omega arith) c.put_number-next.ensures c.put_byte-2.ensures)

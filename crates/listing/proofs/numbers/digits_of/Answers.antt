@@ -2,8 +2,8 @@ use Rattle.std.proofs.Common.{arith}
 use Rattle.listing.proofs.Decimals.{length_digit, length_step, length_few}
 use Rattle.listing.proofs.numbers.digits_of.Goals as goal
 
-pub overflow-add-count : goal.overflow-add-count
-overflow-add-count c = omega (arith, c.loop-rest.invariant.0, length_few c.args.number (omega arith))
+pub overflow_add-count : goal.overflow_add-count
+overflow_add-count c = omega (arith, c.loop-rest.invariant.0, length_few c.args.number (omega arith))
 
 pub loop-rest-preserved : goal.loop-rest-preserved
 loop-rest-preserved c =

@@ -3,4 +3,4 @@ use Rattle.listing.proofs.Placing.{put_then}
 use Rattle.listing.proofs.numbers.put_letter.Goals as goal
 
 pub returns : goal.returns
-returns c = put_then (omega arith) c.put-byte-next.ensures c.put-byte.ensures
+returns c = put_then (omega arith) c.put_byte-next.ensures c.put_byte.ensures

@@ -1,4 +1,4 @@
-use Rattle.std.proofs.Common.{◌≡◌, ℕ, Ok, Err, sym, ◌∙◌, subst, arith}
+use Rattle.std.proofs.Common.{◌≡◌, ℕ, Ok, sym, ◌∙◌, subst, arith}
 use Rattle.ruler.specs.Map.{mapped}
 use Rattle.sheet.specs.Law.{Lawful}
 use Rattle.dimacs.specs.Loads.{LoadsMap}
@@ -6,12 +6,12 @@ use Rattle.listing.specs.Files.{Planned}
 use Rattle.listing.proofs.Filing.{never_refused, plan_done, plan_refused}
 use Rattle.listing.proofs.planning.plan_file.Goals as goal
 
-pub returns-in-err-load-sheet : goal.returns-in-err-load-sheet
-returns-in-err-load-sheet c =
+pub returns-in_err-load_sheet : goal.returns-in_err-load_sheet
+returns-in_err-load_sheet c =
     let bs = c.args.file.now in
     let opened = c.open-sheet.ensures in
-    let drawn = subst (λ m. LoadsMap bs (Ok tt) m) (sym opened.kept) c.in-ok-load-map.ensures.document in
-    let never = never_refused bs c.open-sheet.result.ruler _ opened.ledger drawn _ _ c.in-err-load-sheet.ensures.document in
+    let drawn = subst (λ m. LoadsMap bs (Ok tt) m) (sym opened.kept) c.in_ok-load_map.ensures.document in
+    let never = never_refused bs c.open-sheet.result.ruler _ opened.ledger drawn _ _ c.in_err-load_sheet.ensures.document in
     let z : ◌≡◌ {A = ℕ} 0 1 = cc never in
     absurd (omega arith)
 
@@ -19,18 +19,18 @@ pub returns-in-Err : goal.returns-in-Err
 returns-in-Err c =
     let bs = c.args.file.now in
     let opened = c.open-sheet.ensures in
-    let drawn = subst (λ m. LoadsMap bs (Ok tt) m) (sym opened.kept) c.in-ok-load-map.ensures.document in
-    plan_refused bs c.open-sheet.result.ruler _ opened.ledger drawn _ _ c.in-ok-load-sheet.ensures.document c.in-Err.refusal c.in-Err.ensures.answer
+    let drawn = subst (λ m. LoadsMap bs (Ok tt) m) (sym opened.kept) c.in_ok-load_map.ensures.document in
+    plan_refused bs c.open-sheet.result.ruler _ opened.ledger drawn _ _ c.in_ok-load_sheet.ensures.document c.in-Err.refusal c.in-Err.ensures.answer
 
 pub returns : goal.returns
 returns c =
     let bs = c.args.file.now in
     let opened = c.open-sheet.ensures in
     let map = c.open-sheet.result.ruler in
-    let loaded = c.in-ok-load-sheet.ensures in
-    let planned = c.in-default.ensures in
+    let loaded = c.in_ok-load_sheet.ensures in
+    let planned = c.in_default.ensures in
     let last = c.plan.new.self in
-    let drawn = subst (λ m. LoadsMap bs (Ok tt) m) (sym opened.kept) c.in-ok-load-map.ensures.document in
+    let drawn = subst (λ m. LoadsMap bs (Ok tt) m) (sym opened.kept) c.in_ok-load_map.ensures.document in
     let same : last.ruler ≡ map = planned.same ∙ loaded.same in
     let law = planned.law (loaded.law (subst (λ m. Lawful (mapped m) c.open-sheet.result.net) (sym opened.kept) opened.law)) in
     subst (λ m. Planned bs m last.net) (sym same) (plan_done bs map _ opened.ledger drawn _ _ loaded.document last.net planned.answer planned.after (subst (λ m. Lawful (mapped m) last.net) same law))

@@ -4,5 +4,5 @@ use Rattle.listing.proofs.numbers.lines.link_length.Goals as goal
 
 pub returns : goal.returns
 returns c =
-    let numbers = c.numbers-of-from in
+    let numbers = c.numbers_of-from in
     record { count = omega (arith, length_wire_line c.args.link.now numbers.result numbers.ensures.order); few = omega arith; sized = numbers.ensures.sized }

@@ -3,11 +3,11 @@ use Rattle.listing.proofs.Placing.{put_then}
 use Rattle.listing.proofs.Texts.{length_area_line}
 use Rattle.listing.proofs.numbers.lines.put_area.Goals as goal
 
-pub put-letter-at-requires : goal.put-letter-at-requires
-put-letter-at-requires c = omega (arith, length_area_line c.args.area)
+pub put_letter-at-requires : goal.put_letter-at-requires
+put_letter-at-requires c = omega (arith, length_area_line c.args.area)
 
-pub put-last-requires : goal.put-last-requires
-put-last-requires c = omega (arith, length_area_line c.args.area)
+pub put_last-requires : goal.put_last-requires
+put_last-requires c = omega (arith, length_area_line c.args.area)
 
 pub returns : goal.returns
-returns c = put_then (omega arith) c.put-letter-at.ensures c.put-last.ensures
+returns c = put_then (omega arith) c.put_letter-at.ensures c.put_last.ensures

@@ -7,20 +7,20 @@ use Rattle.listing.proofs.numbers.lines.put_links.Goals as goal
 pub loop-link-init : goal.loop-link-init
 loop-link-init c = (refl, λ o n p. p)
 
-pub put-link-at-requires : goal.put-link-at-requires
-put-link-at-requires c =
+pub put_link-at-requires : goal.put_link-at-requires
+put_link-at-requires c =
     let more = length_lines_more c.args.links.now c.loop-link.link-index (omega arith) in
     omega arith
 
 pub loop-link-preserved : goal.loop-link-preserved
 loop-link-preserved c =
     let more = length_lines_more c.args.links.now c.loop-link.link-index (omega arith) in (
-      omega (arith, c.put-link-at.ensures.end),
+      omega (arith, c.put_link-at.ensures.end),
       λ o n p.
           let P : List ℕ → Type 0 = λ text. Put c.loop-link.out c.loop-link.at text o n in
           c.loop-link.invariant.1 o n
           (subst P (sym (wire_lines_more c.args.links.now c.loop-link.link-index (omega arith)))
-          (put_then (omega arith) c.put-link-at.ensures p)),
+          (put_then (omega arith) c.put_link-at.ensures p)),
     )
 
 pub returns : goal.returns

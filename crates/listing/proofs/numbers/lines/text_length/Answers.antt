@@ -12,7 +12,7 @@ loop-link-init c =
 pub loop-link-preserved : goal.loop-link-preserved
 loop-link-preserved c =
     let more = length_lines_more c.args.links.now c.loop-link.link-index (omega arith) in
-    let one = c.link-length-count.ensures in
+    let one = c.link_length-count.ensures in
     (omega arith, omega arith, λ s. c.loop-link.invariant.2 (sized_more c.args.links.now c.loop-link.link-index (omega arith) one.sized s))
 
 pub returns : goal.returns

@@ -18,8 +18,8 @@ pub returns-in-Err : goal.returns-in-Err
 returns-in-Err c =
     let held = c.args.buffer.now in
     let refusal = c.in-Err.refusal in
-    let put = c.list-refusal.ensures in
+    let put = c.list_refusal.ensures in
     record {
       reply = record { text = refusal_text refusal; answers = inr (refusal, c.in-Err.ensures, refl); count = put.count; holds = put.holds };
-      within = fitted_within (refusal_text refusal) held c.list-refusal.result put.count;
+      within = fitted_within (refusal_text refusal) held c.list_refusal.result put.count;
     }

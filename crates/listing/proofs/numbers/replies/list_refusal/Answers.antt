@@ -5,6 +5,6 @@ use Rattle.listing.proofs.numbers.replies.list_refusal.Goals as goal
 pub returns : goal.returns
 returns c =
     record {
-      count = put_fitted _ c.args.buffer.now _ _ (omega arith) c.put-refusal.ensures;
-      holds = put_filled _ c.args.buffer.now _ _ (omega arith) c.put-refusal.ensures;
+      count = put_fitted _ c.args.buffer.now _ _ (omega arith) c.put_refusal.ensures;
+      holds = put_filled _ c.args.buffer.now _ _ (omega arith) c.put_refusal.ensures;
     }

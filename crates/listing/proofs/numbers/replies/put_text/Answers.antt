@@ -1,4 +1,4 @@
-use Rattle.std.proofs.Common.{◌≡◌, ℕ, List, sym, subst, arith}
+use Rattle.std.proofs.Common.{ℕ, List, sym, subst, arith}
 use Rattle.std.proofs.lemmas.List.{take_all, take_more}
 use Rattle.listing.specs.Listing.{Put}
 use Rattle.listing.proofs.Placing.{put_none, put_then}
@@ -9,9 +9,9 @@ loop-i-init c = (omega arith, put_none c.args.out.now c.args.start)
 
 pub loop-i-preserved : goal.loop-i-preserved
 loop-i-preserved c =
-    let P : List ℕ → Type 0 = λ text. Put c.args.out.now c.args.start text c.put-byte-at.new.out c.put-byte-at.result in
-    let end = c.put-byte-at.ensures.end in
-    (omega arith, subst P (sym (take_more c.args.text.now c.loop-i.i 0 c.loop-i-test.true)) (put_then (omega arith) c.loop-i.invariant.1 c.put-byte-at.ensures))
+    let P : List ℕ → Type 0 = λ text. Put c.args.out.now c.args.start text c.put_byte-at.new.out c.put_byte-at.result in
+    let end = c.put_byte-at.ensures.end in
+    (omega arith, subst P (sym (take_more c.args.text.now c.loop-i.i 0 c.loop-i-test.true)) (put_then (omega arith) c.loop-i.invariant.1 c.put_byte-at.ensures))
 
 pub returns : goal.returns
 returns c =

@@ -1,5 +1,5 @@
 -- The bytes so far are put.
-use Rattle.std.proofs.Common.{◌≡◌, ◌+◌, length, take}
+use Rattle.std.proofs.Common.{◌≡◌, ◌+◌, take}
 use Rattle.listing.specs.Listing.{Put}
 use Rattle.listing.proofs.numbers.replies.put_text.Given as goal
 
