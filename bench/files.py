@@ -64,7 +64,7 @@ def make(seed, folder):
 
 def commands(folder):
     """What is run, and the file and the line that its area is found in."""
-    todo = {"ours": (["target/bin/wiring"], folder + "/ours.out", r"^s (\d+)$")}
+    todo = {"ours": (["crates/wiring/out/wiring"], folder + "/ours.out", r"^s (\d+)$")}
     for net in ["net", "ring"]:
         lemon, glpk = "lemon, " + net, "glpk, " + net
         path, flow = "%s/%s.min" % (folder, net), "%s/%s.flow" % (folder, net)

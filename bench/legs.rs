@@ -1,5 +1,5 @@
 // A map's method in plain Rust, to time against: rustc -O bench/legs.rs.
-// Reads maps as target/bin/lengths does, prints their lengths, and with `time R` the time of making each R times on stderr.
+// Reads maps as crates/lengths/out/lengths does, prints their lengths, and with `time R` the time of making each R times on stderr.
 use std::hint::black_box;
 use std::io::Read;
 use std::time::Instant;

@@ -1,5 +1,5 @@
 // LEMON's network simplex on the same nets, to time against: g++ -O2 bench/lemon.cpp.
-// Reads nets as target/bin/batch does, prints their areas, and with `time R` the time of R runs of each on stderr.
+// Reads nets as crates/batch/out/batch does, prints their areas, and with `time R` the time of R runs of each on stderr.
 // The graph and the solver object are built once for each net, outside the loop. Each timed run sets the supplies,
 // makes the costs from the points, sets them, and runs the solver.
 #include <chrono>

@@ -1,5 +1,5 @@
 // The planner's method in plain Rust, to time against: rustc -O bench/plan.rs.
-// Reads nets as target/bin/batch does, prints their areas, and with `time R` the time of R plans of each on stderr.
+// Reads nets as crates/batch/out/batch does, prints their areas, and with `time R` the time of R plans of each on stderr.
 // A plan makes the table of lengths from the points, solves it, and lists wires and marks.
 use std::hint::black_box;
 use std::io::Read;

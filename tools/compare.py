@@ -1,7 +1,7 @@
 #!/usr/bin/env python3
-"""Compares the areas that target/bin/batch plans with those of an outside solver, on random nets of many kinds.
+"""Compares the areas that the program batch plans with those of an outside solver, on random nets of many kinds.
 
-    rt check batch                       builds target/bin/batch
+    tools/build batch                    builds crates/batch/out/batch
     tools/compare.py                     600 nets; exit status 1 where an area differs
     tools/compare.py --nets 2000 --seed 7 --solver networkx
     tools/compare.py --write-gate        writes crates/batch/stdin and stdout anew, the areas by the solver alone
@@ -21,7 +21,7 @@ import sys
 import tempfile
 
 ROOT = os.path.dirname(os.path.dirname(os.path.abspath(__file__)))
-BATCH = os.path.join(ROOT, "target", "bin", "batch")
+BATCH = os.path.join(ROOT, "crates", "batch", "out", "batch")
 FULL = 1_000_000
 EDGE = 65_535
 

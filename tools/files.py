@@ -1,7 +1,7 @@
 #!/usr/bin/env python3
-"""Compares what target/bin/wiring plans for random files with the least costs of an outside solver.
+"""Compares what the program wiring plans for random files with the least costs of an outside solver.
 
-    rt check wiring                      builds target/bin/wiring
+    tools/build wiring                   builds crates/wiring/out/wiring
     tools/files.py                       600 files; exit status 1 where an answer differs
     tools/files.py --files 2000 --seed 7 --solver glpk
 
@@ -24,7 +24,7 @@ import compare
 import lengths
 
 ROOT = os.path.dirname(os.path.dirname(os.path.abspath(__file__)))
-WIRING = os.path.join(ROOT, "target", "bin", "wiring")
+WIRING = os.path.join(ROOT, "crates", "wiring", "out", "wiring")
 RING = 4_000_000
 UNBALANCED = ["c refused 6 0 0"]
 SOLVERS = {"lemon": compare.lemon_cost, "glpk": compare.glpk_cost}

@@ -1,7 +1,7 @@
 #!/usr/bin/env python3
-"""Compares the lengths that target/bin/lengths prints for random maps with those of Floyd and Warshall's method.
+"""Compares the lengths that the program lengths prints for random maps with those of Floyd and Warshall's method.
 
-    rt check lengths                     builds target/bin/lengths
+    tools/build lengths                  builds crates/lengths/out/lengths
     tools/lengths.py                     200 maps; exit status 1 where a length differs
     tools/lengths.py --maps 1000 --seed 7
     tools/lengths.py --write-gate        writes crates/lengths/stdin and stdout anew, the lengths by this script alone
@@ -16,7 +16,7 @@ import subprocess
 import sys
 
 ROOT = os.path.dirname(os.path.dirname(os.path.abspath(__file__)))
-LENGTHS = os.path.join(ROOT, "target", "bin", "lengths")
+LENGTHS = os.path.join(ROOT, "crates", "lengths", "out", "lengths")
 FULL = 4_000_000
 
 

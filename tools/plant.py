@@ -5,7 +5,7 @@
     tools/plant.py sheet audit           some crates
 
 The bugs of a crate are its must-fail edits and those of tools/bugs/CRATE.txt (kind, file, old and new text). Each is
-planted in a copy of the repository, in which the crate is checked (`rt dev`); where it is still proved, the tests in
+planted in a copy of the repository, in which the crate is checked (`rt check`); where it is still proved, the tests in
 crates/trials are run. A run that proves a crate again takes 5 to 60 seconds, so all of them take about an hour.
 Exit status 1 where a bug survived.
 """
@@ -40,8 +40,8 @@ def bugs_of(crate):
     return found
 
 
-def says(folder, command, word):
-    done = subprocess.run(command, cwd=folder, capture_output=True, text=True)
+def says(folder, crate, command, word):
+    done = subprocess.run(["rt", command], cwd=os.path.join(folder, "crates", crate), capture_output=True, text=True)
     return done.returncode == 0 and word in done.stdout + done.stderr
 
 
@@ -55,9 +55,9 @@ def caught_by(folder, crate, bug):
     with open(path, "w") as file:
         file.write(text.replace(old, new))
     try:
-        if not says(folder, ["rt", "dev", crate], "logic=proved"):
+        if not says(folder, crate, "check", "logic=proved"):
             return "proof"
-        return "nothing" if says(folder, ["rt", "test", "trials"], " 0 failed") else "test"
+        return "nothing" if says(folder, "trials", "test", " 0 failed") else "test"
     finally:
         with open(path, "w") as file:
             file.write(text)

@@ -1,6 +1,6 @@
 // The map as a ruler.
 ghost use Rattle.ruler.specs.Map.{mapped};
-ghost use Rattle.std.proofs.Common.{rules, arith};
+ghost use Rattle.std.proofs.Common.{rules};
 
 use crate::map::Map;
 use crate::ruler::Ruler;
@@ -8,7 +8,7 @@ use crate::ruler::Ruler;
 impl Ruler for Map {
     ghost meaning = { mapped };
 
-    ghost metric = { first_of (Prim.search rules, Prim.grind (arith, Self.row.coded.inj)) };
+    ghost metric = { Prim.search rules };
 
     fn known(&self, site: u32) -> bool {
         self.knows(site)
