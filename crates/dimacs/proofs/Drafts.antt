@@ -2,7 +2,7 @@
 use Rattle.std.proofs.Common.{◌≡◌, ℕ, suc, ◌+◌, ◌<◌, Bool, true, false, cond, ◌||◌, eqb, ltb, List, [], ◌∷◌, ◌++◌, Some, None, Ok, Err, Option, Result, sym, refl, ap, ◌∙◌, arith}
 use Rattle.std.proofs.lemmas.List.{append-nil, append_assoc}
 use Rattle.std.proofs.lemmas.Bool.{cond-true, eqb-true, eq-eqb, lt-ltb}
-use Rattle.audit.specs.Questions.{outcome}
+use Rattle.dimacs.specs.Asking.{outcome}
 use Rattle.dimacs.specs.declared.document.Problem as the_problem
 use Rattle.dimacs.specs.declared.document.Node as the_node
 use Rattle.dimacs.specs.declared.document.Arc as the_arc

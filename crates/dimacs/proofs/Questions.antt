@@ -1,7 +1,8 @@
 -- What the questions of each kind of line ask, in the layout's words.
 use Rattle.std.proofs.Common.{◌≡◌, ℕ, ◌≤◌, Bool, true, false, not, ◌&&◌, eqb, leb, List, ◌∷◌, None, Option, refl, ap, ◌∙◌, arith}
 use Rattle.std.proofs.lemmas.Bool.{and_parts, and_from, eq-eqb, eqb-true, le-leb, leb-true, not_from_false, not-true}
-use Rattle.audit.specs.Questions.{allowed, ask, first_no}
+use Rattle.audit.specs.Questions.{allowed}
+use Rattle.dimacs.specs.Asking.{ask, first_no}
 use Rattle.dimacs.specs.declared.document.Problem as the_problem
 use Rattle.dimacs.specs.declared.document.Node as the_node
 use Rattle.dimacs.specs.declared.document.Arc as the_arc

@@ -1,3 +1,4 @@
+pub mod Asking
 pub mod Contents
 pub mod Layout
 pub mod Loads

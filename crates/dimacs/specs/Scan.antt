@@ -2,7 +2,8 @@
 use Rattle.std.specs.Prelude.{ℕ, ◌+◌, ◌-◌, Bool, false, cond, not, ◌&&◌, ◌||◌, List, [], ◌∷◌, ◌++◌, length, ℤ, pos, negsuc, is_some, Some, None, Ok, Err, Option, Result, ◌==◌, nat_le, nat_lt, slice_index}
 use Rattle.ruler.specs.declared.refusal.Refusal.TheVariants.{LegTooLong}
 use Rattle.audit.specs.declared.refusal.Refusal.TheVariants.{IdTaken, CurrentOutOfRange, SiteUnknown}
-use Rattle.audit.specs.Questions.{allowed, ask, first_no, outcome}
+use Rattle.audit.specs.Questions.{allowed}
+use Rattle.dimacs.specs.Asking.{ask, first_no, outcome}
 use Rattle.dimacs.specs.declared.document.Problem as the_problem
 use Rattle.dimacs.specs.declared.document.Node as the_node
 use Rattle.dimacs.specs.declared.document.Arc as the_arc

@@ -1,6 +1,7 @@
 // A line put to its questions, and then entered in the draft.
 ghost use Rattle.std.specs.Prelude.{◌≡◌, ◌+◌, ◌^◌, ◌<◌, ◌≤◌, true, false, None};
-ghost use Rattle.audit.specs.Questions.{allowed, outcome};
+ghost use Rattle.audit.specs.Questions.{allowed};
+ghost use Rattle.dimacs.specs.Asking.{outcome};
 ghost use Rattle.dimacs.specs.Contents.{draft_of, left_by};
 ghost use Rattle.reader.specs.Refusals.{refused};
 ghost use Rattle.dimacs.specs.Scan.{arc_asked, entered, node_asked, nothing, on_site, problem_asked, sites_of, taken, with_arc, with_node, with_problem};
