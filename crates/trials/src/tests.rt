@@ -1,5 +1,6 @@
 // What calls on a sheet come to as numbers: a refusal's number and place, or 0 and the area.
 use audit::refusal::Refusal;
+use reader::refusal::Refusal as FileRefusal;
 use ruler::ruler::Ruler;
 use sheet::sheet::Sheet;
 use wires::wire::Wire;
@@ -25,6 +26,19 @@ fn audited(res: Result<u64, Refusal>) -> (u32, u64) {
     match res {
         Ok(area) => (0, area),
         Err(refusal) => (refusal.number(), u64::from(refusal.place())),
+    }
+}
+
+// A refused load's number, line, word and place, or zeros.
+fn loaded(res: Result<(), FileRefusal>) -> (u32, usize, usize, u32) {
+    match res {
+        Ok(()) => (0, 0, 0, 0),
+        Err(refusal) => (
+            refusal.number(),
+            refusal.line,
+            refusal.word,
+            refusal.place(),
+        ),
     }
 }
 

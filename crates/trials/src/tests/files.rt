@@ -1,7 +1,7 @@
 // Files put to both loads: every refusal at every word that can be at fault, and files that are accepted.
 use crate::strip::Strip;
+use crate::tests::loaded;
 use dimacs::load::{load_map, load_sheet};
-use reader::refusal::Refusal;
 use ruler::map::Map;
 use sheet::sheet::Sheet;
 use std::alloc::Global;
@@ -21,18 +21,6 @@ struct Case {
 
 fn gives(file: &'static [u8], verdict: Verdict) -> Case {
     Case { file, verdict }
-}
-
-pub(crate) fn loaded(res: Result<(), Refusal>) -> Verdict {
-    match res {
-        Ok(()) => ACCEPTED,
-        Err(refusal) => (
-            refusal.number(),
-            refusal.line,
-            refusal.word,
-            refusal.place(),
-        ),
-    }
 }
 
 fn by_map(file: &[u8]) -> Verdict {

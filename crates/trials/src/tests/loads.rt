@@ -1,6 +1,5 @@
 // What a load makes of a map and of a sheet, and what a refused one leaves of them.
-use crate::tests::files::loaded;
-use crate::tests::{audited, edited, mark_at, marked, wire, wire_at};
+use crate::tests::{audited, edited, loaded, mark_at, marked, wire, wire_at};
 use dimacs::load::{load_map, load_sheet};
 use ruler::map::Map;
 use ruler::plane::Plane;
