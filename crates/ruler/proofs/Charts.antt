@@ -5,7 +5,7 @@ use Rattle.ruler.specs.declared.map.Map.{Map}
 use Rattle.ruler.specs.declared.map.table.run.Step.{Step}
 use Rattle.ruler.specs.declared.map.table.run.Step.TheVariants.{Leg}
 use Rattle.ruler.specs.declared.refusal.Refusal.{Refusal}
-use Rattle.ruler.specs.Chart.{Chart, Shows, blank, course, fed}
+use Rattle.ruler.specs.Chart.{Chart, Follows, Shows, blank, course, fed}
 use Rattle.ruler.specs.Map.{Lengthened, leg_of, leg_outcome}
 
 -- a leg is refused by the map exactly where the chart refuses it
@@ -23,5 +23,15 @@ pub course_push : (c : Chart) (steps : List Step) (step : Step) → course c (st
 course_push c [] step = refl
 course_push c (first ∷ steps) step = course_push (fed c first) steps step
 
-pub course_more : (steps : List Step) (i : ℕ) (d : Step) → i < length steps → fed (course blank (take i steps)) (get_or steps i d) ≡ course blank (take (i + 1) steps)
+course_more : (steps : List Step) (i : ℕ) (d : Step) → i < length steps → fed (course blank (take i steps)) (get_or steps i d) ≡ course blank (take (i + 1) steps)
 course_more steps i d h = sym (course_push blank (take i steps) (get_or steps i d)) ∙ ap (course blank) (sym (take_more steps i d h))
+
+-- the map shows the steps
+pub record Charts (m : Map) (steps : List Step) : Type 0 where
+  pub shows : Shows m (course blank steps)
+
+-- a map that charts the steps so far charts one more, once it has made it
+pub charts_more : (m after : Map) (steps : List Step) (i : ℕ) (d : Step) → i < length steps → Charts m (take i steps) → Follows m after (get_or steps i d) → Charts after (take (i + 1) steps)
+charts_more m after steps i d h so_far made =
+    let P : Chart → Type 0 = λ c. Shows after c in
+    record { shows = subst P (course_more steps i d h) (made.shown _ so_far.shows) }

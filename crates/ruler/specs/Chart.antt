@@ -28,3 +28,7 @@ course c (step ∷ steps) = course (fed c step) steps
 -- the map stands for the chart: each of its lengths is the smallest sum along a way of the chart's legs, or the ring
 abbrev pub Shows : Map → Chart → Type 0
 Shows m c = the_map.Stands m c.sites c.ring c.legs
+
+-- whatever chart the map showed before, it shows that with one step more after
+pub record Follows (before after : Map) (step : Step) : Type 0 where
+  pub shown : (c : Chart) → Shows before c → Shows after (fed c step)

@@ -8,7 +8,7 @@ use Rattle.ruler.specs.Meaning.{Meaning}
 
 -- It knows the sites 1 to n; site 1 has place 0 in its table.
 abbrev pub mapped : Map → Meaning
-mapped m = record { known = knows m.sites; span = λ a b. cell m.cells (a - 1) (b - 1) }
+mapped m = record { known = knows m.sites; span = λ a b. cell m.rows (a - 1) (b - 1) }
 
 -- A leg leads one way.
 pub record Leg : Type 0 where

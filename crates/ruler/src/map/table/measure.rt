@@ -16,7 +16,7 @@ impl Ruler for Map {
 
     fn length(&self, from: u32, to: u32) -> Option<u32> {
         if self.knows(from) && self.knows(to) {
-            Some(self.cells[64 * (from as usize - 1) + (to as usize - 1)])
+            Some(self.rows[from as usize - 1][to as usize - 1])
         } else {
             None
         }

@@ -1,5 +1,5 @@
 // Runs of steps that make a map.
-ghost use Rattle.ruler.specs.Chart.{Chart, Shows, blank, course, fed};
+ghost use Rattle.ruler.specs.Chart.{Follows, Shows, blank, course};
 
 use crate::map::Map;
 
@@ -12,14 +12,14 @@ pub enum Step {
 impl Map {
     // A leg that is refused leaves the map as it was.
     fn attempt_leg(&mut self, from: u32, to: u32, length: u32)
-        ensures { (c : Chart) → Shows self.old c → Shows self.new (fed c (Step.Leg from to length)) }
+        ensures { Follows self.old self.new (Step.Leg from to length) }
     {
         let _ = self.leg(from, to, length);
     }
 
     // Makes one step; a refused one leaves the map as it was.
     pub fn make(&mut self, step: Step)
-        ensures { (c : Chart) → Shows self.old c → Shows self.new (fed c step) }
+        ensures { Follows self.old self.new step }
     {
         match step {
             Step::Begin { sites, ring } => {
@@ -31,12 +31,13 @@ impl Map {
 }
 
 // The map after a run of steps.
+#[tactic(auto, using(crate::proofs::Charts::charts_more))]
 pub fn charted(steps: &[Step]) -> Map
     ensures { Shows result (course blank steps.now) }
 {
     let mut map = Map::empty();
-    for i in 0..steps.len() {
-        map.make(steps[i]);
+    for step in steps {
+        map.make(*step);
     }
     map
 }

@@ -3,4 +3,4 @@ use Rattle.ruler.proofs.Ways.{stands_bare}
 use Rattle.ruler.proofs.map.Map.bare.Goals as goal
 
 pub returns : goal.returns
-returns c = stands_bare _ _ _ refl refl c.bare_cells.ensures
+returns c = stands_bare _ _ _ refl refl c.bare_rows.ensures

@@ -1,7 +1,7 @@
--- The map shows the steps so far.
+-- The map charts the steps so far.
 use Rattle.std.proofs.Common.{take}
-use Rattle.ruler.specs.Chart.{Shows, blank, course}
+use Rattle.ruler.proofs.Charts.{Charts}
 use Rattle.ruler.proofs.map.table.run.charted.Given as goal
 
-abbrev pub invariant-loop-i : goal.invariant-loop-i
-invariant-loop-i l = Shows l.map (course blank (take l.i l.steps))
+abbrev pub invariant-loop-step : goal.invariant-loop-step
+invariant-loop-step l = Charts l.map (take l.step-index l.steps)
