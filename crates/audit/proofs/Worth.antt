@@ -1,5 +1,5 @@
 -- The worth of a marked row, and of the rows so far.
-use Rattle.std.proofs.Common.{◌≡◌, ℕ, zero, suc, ◌+◌, ◌*◌, ◌^◌, ◌<◌, ◌≤◌, true, leb, List, [], ◌∷◌, length, take, ℤ, pos, negsuc, ◌+ℤ◌, ◌*ℤ◌, neg_ℤ, ◌≤ℤ◌, Some, None, Option, ap, ◌∙◌, mul-le-mul, add-one, arith, w64, SFits, to_z, of_z}
+use Rattle.std.proofs.Common.{◌≡◌, ℕ, suc, ◌*◌, ◌^◌, ◌<◌, ◌≤◌, true, leb, List, ◌∷◌, ℤ, pos, negsuc, ◌+ℤ◌, ◌*ℤ◌, neg_ℤ, ◌≤ℤ◌, Some, None, Option, ap, ◌∙◌, mul-le-mul, arith, w64, SFits, to_z, of_z}
 use borrow.Author.Differences.{ints}
 use lib.IntN.{pos-*ℤ-pos}
 use Rattle.std.proofs.lemmas.Bool.{and_parts, leb-true}
@@ -7,7 +7,7 @@ use Rattle.wires.specs.declared.terminal.Terminal.{Terminal}
 use Rattle.wires.specs.Marks.{value, worth}
 use Rattle.wires.specs.Wiring.{row_adds}
 use Rattle.wires.proofs.Integers.{neg_mul}
-use Rattle.audit.specs.Audit.{pins, mark_at, row_at}
+use Rattle.audit.specs.Audit.{pins}
 use Rattle.audit.specs.Questions.{allowed}
 
 -- an allowed current times a mark of 32 bits
@@ -33,14 +33,7 @@ worth_fits a b z mark e f ok short =
     go : (p q : ℤ) → p ≡ q → neg_ℤ (pos 4294967296000000) ≤ℤ q → q ≤ℤ pos 4294967296000000 → SFits w64 p × (to_z w64 (of_z w64 p) ≡ q)
     go p q is low high = (omega (arith, ints), omega (arith, ints))
 
--- one row more
-pub value_more : (rows : List (Option Terminal)) (marks : List ℕ) (i : ℕ) → i < length rows → length marks ≡ length rows → value (pins (take (i + 1) rows) (take (i + 1) marks)) ≡ value (pins (take i rows) (take i marks)) +ℤ row_adds (λ t. worth (record { terminal = t; mark = mark_at marks i })) (row_at rows i)
-value_more rows marks i h e = rw add-one (go rows marks i h e)
-  where
-    go : (rows : List (Option Terminal)) (marks : List ℕ) (i : ℕ) → i < length rows → length marks ≡ length rows → value (pins (take (suc i) rows) (take (suc i) marks)) ≡ value (pins (take i rows) (take i marks)) +ℤ row_adds (λ t. worth (record { terminal = t; mark = mark_at marks i })) (row_at rows i)
-    go [] marks i h e = absurd (omega arith)
-    go (r ∷ rows) [] i h e = absurd (omega arith)
-    go (Some t ∷ rows) (m ∷ marks) zero h e = omega (arith, ints)
-    go (None ∷ rows) (m ∷ marks) zero h e = omega (arith, ints)
-    go (Some t ∷ rows) (m ∷ marks) (suc i) h e = let rest = go rows marks i (omega arith) (omega arith) in omega (arith, ints)
-    go (None ∷ rows) (m ∷ marks) (suc i) h e = go rows marks i (omega arith) (omega arith)
+-- the first row and its mark, and the rest
+pub value_front : (row : Option Terminal) (mark : ℕ) (rows : List (Option Terminal)) (marks : List ℕ) → value (pins (row ∷ rows) (mark ∷ marks)) ≡ row_adds (λ t. worth (record { terminal = t; mark = mark })) row +ℤ value (pins rows marks)
+value_front (Some t) mark rows marks = omega (arith, ints)
+value_front None mark rows marks = omega (arith, ints)

@@ -77,10 +77,13 @@ too_far m (Some a) x (Some b) y = beyond (measured m a.site b.site) x y
 too_far m (Some a) x None y = false
 too_far m None x b y = false
 
+-- some seated b is marked too far above a seated one of that mark
+abbrev pub pulls : Meaning → List (Option Terminal) → List ℕ → Option Terminal → ℕ → Bool
+pulls m rows marks from mark = is_some (lowest (λ b. too_far m from mark (row_at rows b) (mark_at marks b)) 64)
+
 -- some seated b is marked too far above the seated a
 abbrev pub strained : Meaning → List (Option Terminal) → List ℕ → ℕ → Bool
-strained m rows marks a =
-    is_some (lowest (λ b. too_far m (row_at rows a) (mark_at marks a) (row_at rows b) (mark_at marks b)) 64)
+strained m rows marks a = pulls m rows marks (row_at rows a) (mark_at marks a)
 
 abbrev pub marks_reach : Meaning → List (Option Terminal) → List ℕ → Option Refusal
 marks_reach m rows marks = fault (λ a. MarksApart (a + 1)) (lowest (strained m rows marks) 64)

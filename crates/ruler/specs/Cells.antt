@@ -1,5 +1,5 @@
 -- A table of lengths: 64 rows of 64 cells, one cell for each pair of places.
-use Rattle.std.specs.Prelude.{◌≡◌, ℕ, ◌+◌, ◌<◌, ◌≤◌, min, Bool, cond, ◌&&◌, List, [], length, ◌==◌, nat_le, slice_index, slice_index_or}
+use Rattle.std.specs.Prelude.{◌≡◌, ℕ, ◌+◌, ◌<◌, ◌≤◌, min, Bool, cond, ◌&&◌, List, [], ◌==◌, nat_le, slice_index, slice_index_or}
 
 -- the cell in row i and column j
 abbrev pub cell : List (List ℕ) → ℕ → ℕ → ℕ

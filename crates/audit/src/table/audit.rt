@@ -1,9 +1,9 @@
 // The audit of a filed plan against the sheet's terminals: one question a loop, each put to the whole list.
-ghost use Rattle.std.specs.Prelude.{◌≡◌, ◌^◌, ◌<◌, ◌≤◌, true, not, [], length, pos, neg_ℤ, ◌≤ℤ◌};
+ghost use Rattle.std.specs.Prelude.{◌≡◌, ◌^◌, ◌≤◌, true, not, [], length, pos, neg_ℤ, ◌≤ℤ◌};
 ghost use Rattle.wires.specs.Wiring.{area, due, flow, lies, net, row_adds, seated, share};
 ghost use Rattle.wires.specs.Marks.{value, worth};
 ghost use Rattle.audit.specs.Questions.{first_no, outcome, row_allowed};
-ghost use Rattle.audit.specs.Audit.{carries, lowest, mark_fits, wire_at, row_at, mark_at, too_far, strained, unmet, pins, audit_asked, form_questions};
+ghost use Rattle.audit.specs.Audit.{carries, lowest, mark_fits, wire_at, row_at, mark_at, pulls, too_far, strained, unmet, pins, audit_asked, form_questions};
 ghost use Rattle.audit.specs.Law.{Readable};
 ghost use Rattle.audit.specs.Search.{lowered, IsSite, Looked};
 
@@ -24,8 +24,8 @@ fn is_carrying(wire: Wire) -> bool
 fn bad_current(wires: &[Wire]) -> Option<usize>
     ensures { result ≡ lowest (λ i. not (carries (wire_at wires.now i))) (length wires.now) }
 {
-    for i in 0..wires.len() {
-        if !is_carrying(wires[i]) {
+    for (i, wire) in wires.iter().enumerate() {
+        if !is_carrying(*wire) {
             return Some(i);
         }
     }
@@ -36,8 +36,7 @@ fn bad_current(wires: &[Wire]) -> Option<usize>
 fn bad_site<R: Ruler>(ruler: &R, wires: &[Wire]) -> Option<usize>
     ensures { result ≡ lowest (λ i. not (lies (R.meaning ruler.now) (wire_at wires.now i))) (length wires.now) }
 {
-    for i in 0..wires.len() {
-        let wire = wires[i];
+    for (i, wire) in wires.iter().enumerate() {
         let Some(_) = ruler.length(wire.start, wire.end) else {
             return Some(i);
         };
@@ -105,8 +104,8 @@ fn net_of(wires: &[Wire], site: u32) -> i64
     ensures { result ≡ net wires.now site }
 {
     let mut sum: i64 = 0;
-    for i in 0..wires.len() {
-        sum += flow_of(site, wires[i]);
+    for wire in wires {
+        sum += flow_of(site, *wire);
     }
     sum
 }
@@ -142,9 +141,8 @@ impl Table {
         ensures { result ≡ due (seated self.now.rows) site }
     {
         let mut sum: i64 = 0;
-        for i in 0..64 {
-            let row = self.rows[i];
-            sum += due_of(row, site);
+        for row in &self.rows {
+            sum += due_of(*row, site);
         }
         sum
     }
@@ -180,8 +178,7 @@ impl Table {
         ensures { Looked (unmet self.now.rows wires.now) result wires.now [] }
     {
         let mut found = None;
-        for i in 0..wires.len() {
-            let wire = wires[i];
+        for wire in wires {
             found = self.lower_unmet(wires, found, wire.start);
             found = self.lower_unmet(wires, found, wire.end);
         }
@@ -194,9 +191,8 @@ impl Table {
         ensures { result ≡ lowest (unmet self.now.rows wires.now) (2 ^ 32) }
     {
         let mut found = self.unmet_end(wires);
-        for i in 0..64 {
-            let row = self.rows[i];
-            if let Some(terminal) = row {
+        for row in &self.rows {
+            if let Some(terminal) = *row {
                 found = self.lower_unmet(wires, found, terminal.site);
             }
         }
@@ -208,24 +204,27 @@ impl Table {
         requires { length marks.now ≡ 64 }
         ensures { result ≡ lowest (λ i. not (mark_fits (row_at self.now.rows i) (mark_at marks.now i))) 64 }
     {
-        for i in 0..64 {
-            let row = self.rows[i];
-            if !is_fitting(row, marks[i]) {
+        for (i, row) in self.rows.iter().enumerate() {
+            if !is_fitting(*row, marks[i]) {
                 return Some(i);
             }
         }
         None
     }
 
-    // Whether some row is marked too far above row a.
-    fn is_strained<R: Ruler>(&self, ruler: &R, marks: &[u32], a: usize) -> bool
-        requires { (length marks.now ≡ 64) × (a < 64) }
-        ensures { result ≡ strained (R.meaning ruler.now) self.now.rows marks.now a }
+    // Whether some row is marked too far above a row with that mark.
+    fn is_strained<R: Ruler>(
+        &self,
+        ruler: &R,
+        marks: &[u32],
+        from: Option<Terminal>,
+        mark: u32,
+    ) -> bool
+        requires { length marks.now ≡ 64 }
+        ensures { result ≡ pulls (R.meaning ruler.now) self.now.rows marks.now from mark }
     {
-        let from = self.rows[a];
-        for b in 0..64 {
-            let row = self.rows[b];
-            if is_too_far(ruler, from, marks[a], row, marks[b]) {
+        for (b, row) in self.rows.iter().enumerate() {
+            if is_too_far(ruler, from, mark, *row, marks[b]) {
                 return true;
             }
         }
@@ -237,8 +236,8 @@ impl Table {
         requires { length marks.now ≡ 64 }
         ensures { result ≡ lowest (strained (R.meaning ruler.now) self.now.rows marks.now) 64 }
     {
-        for a in 0..64 {
-            if self.is_strained(ruler, marks, a) {
+        for (a, row) in self.rows.iter().enumerate() {
+            if self.is_strained(ruler, marks, *row, marks[a]) {
                 return Some(a);
             }
         }
@@ -251,9 +250,8 @@ impl Table {
         ensures { result ≡ value (pins self.now.rows marks.now) }
     {
         let mut value: i64 = 0;
-        for i in 0..64 {
-            let row = self.rows[i];
-            value += worth_of(row, marks[i]);
+        for (row, mark) in self.rows.iter().zip(marks) {
+            value += worth_of(*row, *mark);
         }
         value
     }
@@ -262,9 +260,7 @@ impl Table {
     pub fn audit<R: Ruler>(&self, ruler: &R, wires: &[Wire], marks: &[u32]) -> Result<u64, Refusal>
         ensures { result ≡ outcome (audit_asked (R.meaning ruler.now) self.now.rows wires.now marks.now) (area (R.meaning ruler.now) wires.now) }
     {
-        if let Some(refusal) = self.form_question(ruler, wires, marks) {
-            return Err(refusal);
-        }
+        self.form_question(ruler, wires, marks)?;
         let area = readable_area(ruler, wires);
         if area as i64 != self.value_of(marks) {
             return Err(Refusal::AreaDiffers);
@@ -273,30 +269,35 @@ impl Table {
     }
 
     // All questions but the last.
-    fn form_question<R: Ruler>(&self, ruler: &R, wires: &[Wire], marks: &[u32]) -> Option<Refusal>
-        ensures { result ≡ first_no (form_questions (R.meaning ruler.now) self.now.rows wires.now marks.now) }
+    fn form_question<R: Ruler>(
+        &self,
+        ruler: &R,
+        wires: &[Wire],
+        marks: &[u32],
+    ) -> Result<(), Refusal>
+        ensures { result ≡ outcome (first_no (form_questions (R.meaning ruler.now) self.now.rows wires.now marks.now)) tt }
     {
         if marks.len() != 64 {
-            return Some(Refusal::MarkCount);
+            return Err(Refusal::MarkCount);
         }
         if wires.len() > 1_024 {
-            return Some(Refusal::WireCount);
+            return Err(Refusal::WireCount);
         }
         if let Some(i) = bad_current(wires) {
-            return Some(Refusal::WireCurrent { wire: i as u32 });
+            return Err(Refusal::WireCurrent { wire: i as u32 });
         }
         if let Some(i) = bad_site(ruler, wires) {
-            return Some(Refusal::WireSite { wire: i as u32 });
+            return Err(Refusal::WireSite { wire: i as u32 });
         }
         if let Some(i) = self.bad_mark(marks) {
-            return Some(Refusal::MarkOutOfRange { id: i as u32 + 1 });
+            return Err(Refusal::MarkOutOfRange { id: i as u32 + 1 });
         }
         if let Some(site) = self.unmet_site(wires) {
-            return Some(Refusal::Unmet { site });
+            return Err(Refusal::Unmet { site });
         }
         if let Some(a) = self.bad_reach(ruler, marks) {
-            return Some(Refusal::MarksApart { id: a as u32 + 1 });
+            return Err(Refusal::MarksApart { id: a as u32 + 1 });
         }
-        None
+        Ok(())
     }
 }

@@ -4,4 +4,4 @@ use Rattle.audit.proofs.table.Table.is_strained.Given as goal
 
 abbrev pub invariant-loop-b : goal.invariant-loop-b
 invariant-loop-b g l =
-    Clear (λ k. too_far (g.R.Ruler.meaning l.ruler) l.from (mark_at l.marks l.a) (row_at l.self.rows k) (mark_at l.marks k)) l.b
+    Clear (λ k. too_far (g.R.Ruler.meaning l.ruler) l.from l.mark (row_at l.self.rows k) (mark_at l.marks k)) l.b

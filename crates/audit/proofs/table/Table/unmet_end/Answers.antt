@@ -6,16 +6,16 @@ use Rattle.audit.specs.Search.{Looked}
 use Rattle.audit.proofs.Touched.{looked_none, looked_wire}
 use Rattle.audit.proofs.table.Table.unmet_end.Goals as goal
 
-pub loop-i-init : goal.loop-i-init
-loop-i-init c = looked_none _
+pub loop-wire-init : goal.loop-wire-init
+loop-wire-init c = looked_none _
 
-pub loop-i-preserved : goal.loop-i-preserved
-loop-i-preserved c =
+pub loop-wire-preserved : goal.loop-wire-preserved
+loop-wire-preserved c =
     let first = c.lower_unmet-found.ensures in
-    let second = c.lower_unmet-found-in-loop-i.ensures in
-    looked_wire _ _ _ _ c.args.wires.now c.loop-i.i no_wire c.loop-i-test.true c.loop-i.invariant first.lower second.lower second.site
+    let second = c.lower_unmet-found-in-loop-wire.ensures in
+    looked_wire _ _ _ _ c.args.wires.now c.loop-wire.wire-index no_wire c.loop-wire-test.true c.loop-wire.invariant first.lower second.lower second.site
 
 pub returns : goal.returns
 returns c =
-    let P : List Wire → Type 0 = λ ws. Looked (unmet c.args.self.now.rows c.args.wires.now) c.loop-i.found ws [] in
-    subst P (take_all c.loop-i.i c.args.wires.now c.loop-i-test.false) c.loop-i.invariant
+    let P : List Wire → Type 0 = λ ws. Looked (unmet c.args.self.now.rows c.args.wires.now) c.loop-wire.found ws [] in
+    subst P (take_all c.loop-wire.wire-index c.args.wires.now c.loop-wire-test.false) c.loop-wire.invariant

@@ -7,22 +7,22 @@ use Rattle.audit.proofs.Touched.{looked_empty, looked_seat, found_lowest}
 use Rattle.audit.proofs.table.Table.unmet_site.Goals as goal
 use Rattle.audit.proofs.table.Table.unmet_site.Goals.{in-Some, in_default}
 
-pub loop-i-init : goal.loop-i-init
-loop-i-init c = c.unmet_end-found.ensures
+pub loop-row-init : goal.loop-row-init
+loop-row-init c = c.unmet_end-found.ensures
 
-pub loop-i-preserved : goal.loop-i-preserved
-loop-i-preserved c =
+pub loop-row-preserved : goal.loop-row-preserved
+loop-row-preserved c =
     let rows = c.args.self.now.rows in
     let ws = c.args.wires.now in
     let bad = unmet rows ws in
-    let P : Option ℕ → Type 0 = λ found. Looked bad found ws (take (c.loop-i.i + 1) rows) in
+    let P : Option ℕ → Type 0 = λ found. Looked bad found ws (take (c.loop-row.row-index + 1) rows) in
     elim c.match-row.branch [
-      | in-Some w ↦ subst P (sym w.found-is) (looked_seat bad c.loop-i.found ws rows c.loop-i.i (omega arith) c.loop-i.invariant w.in-Some.terminal _ w.in-Some.is w.lower_unmet-found.ensures.lower w.lower_unmet-found.ensures.site)
-      | in_default w ↦ subst P (sym w.found-is) (looked_empty bad c.loop-i.found ws rows c.loop-i.i (omega arith) c.loop-i.invariant w.in_default.is)
+      | in-Some w ↦ subst P (sym w.found-is) (looked_seat bad c.loop-row.found ws rows c.loop-row.row-index (omega arith) c.loop-row.invariant w.in-Some.terminal _ w.in-Some.is w.lower_unmet-found.ensures.lower w.lower_unmet-found.ensures.site)
+      | in_default w ↦ subst P (sym w.found-is) (looked_empty bad c.loop-row.found ws rows c.loop-row.row-index (omega arith) c.loop-row.invariant w.in_default.is)
     ]
 
 pub returns : goal.returns
 returns c =
     let rows = c.args.self.now.rows in
-    let P : List (Option Terminal) → Type 0 = λ seen. Looked (unmet rows c.args.wires.now) c.loop-i.found c.args.wires.now seen in
-    found_lowest rows c.args.wires.now c.loop-i.found (subst P (take_all c.loop-i.i rows (omega arith)) c.loop-i.invariant)
+    let P : List (Option Terminal) → Type 0 = λ seen. Looked (unmet rows c.args.wires.now) c.loop-row.found c.args.wires.now seen in
+    found_lowest rows c.args.wires.now c.loop-row.found (subst P (take_all c.loop-row.row-index rows (omega arith)) c.loop-row.invariant)

@@ -4,5 +4,5 @@ use Rattle.audit.specs.Audit.{unmet}
 use Rattle.audit.specs.Search.{Looked}
 use Rattle.audit.proofs.table.Table.unmet_site.Given as goal
 
-abbrev pub invariant-loop-i : goal.invariant-loop-i
-invariant-loop-i l = Looked (unmet l.self.rows l.wires) l.found l.wires (take l.i l.self.rows)
+abbrev pub invariant-loop-row : goal.invariant-loop-row
+invariant-loop-row l = Looked (unmet l.self.rows l.wires) l.found l.wires (take l.row-index l.self.rows)

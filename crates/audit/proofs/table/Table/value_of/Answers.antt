@@ -1,18 +1,21 @@
-use Rattle.std.proofs.Common.{take, ap, ◌∙◌, arith}
+use Rattle.std.proofs.Common.{[], ◌∷◌, length, length-append, ap, ap₂, ◌∙◌, arith}
 use borrow.Author.Differences.{ints}
-use Rattle.std.proofs.lemmas.List.{take_all}
 use Rattle.wires.specs.Marks.{value}
 use Rattle.audit.specs.Audit.{pins}
-use Rattle.audit.proofs.Worth.{value_more}
+use Rattle.audit.proofs.Worth.{value_front}
 use Rattle.audit.proofs.table.Table.value_of.Goals as goal
 
-pub loop-i-preserved : goal.loop-i-preserved
-loop-i-preserved c =
-    let more = value_more c.args.self.now.rows c.args.marks.now c.loop-i.i (omega arith) (omega arith) in
-    omega (arith, ints)
-
-pub returns : goal.returns
-returns c =
-    let rows = c.args.self.now.rows in
-    let marks = c.args.marks.now in
-    c.loop-i.invariant.0 ∙ ap (λ rs. value (pins rs (take c.loop-i.i marks))) (take_all c.loop-i.i rows (omega arith)) ∙ ap (λ ms. value (pins rows ms)) (take_all c.loop-i.i marks (omega arith))
+pub loop-row-preserved : goal.loop-row-preserved
+loop-row-preserved c =
+    let next = c.in-Some.ensures.steps in
+    let front = ap₂ (λ rows marks. value (pins rows marks)) next.0 next.1 ∙ value_front c.in-Some.row.now c.in-Some.mark.now _ _ in
+    let rows = ap length next.0 in
+    let marks = ap length next.1 in
+    let seen = length-append c.loop-row.yielded ((c.in-Some.row, c.in-Some.mark) ∷ []) in
+    record {
+      whole = omega (arith, ints);
+      count = omega arith;
+      same = omega arith;
+      low = omega (arith, ints);
+      high = omega (arith, ints);
+    }

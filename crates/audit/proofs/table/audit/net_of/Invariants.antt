@@ -3,5 +3,5 @@ use Rattle.std.proofs.Common.{◌≡◌, ◌*◌, take, pos, neg_ℤ, ◌≤ℤ�
 use Rattle.wires.specs.Wiring.{net}
 use Rattle.audit.proofs.table.audit.net_of.Given as goal
 
-abbrev pub invariant-loop-i : goal.invariant-loop-i
-invariant-loop-i l = (l.sum ≡ net (take l.i l.wires) l.site) × (neg_ℤ (pos (4294967296 * l.i)) ≤ℤ l.sum) × (l.sum ≤ℤ pos (4294967296 * l.i))
+abbrev pub invariant-loop-wire : goal.invariant-loop-wire
+invariant-loop-wire l = (l.sum ≡ net (take l.wire-index l.wires) l.site) × (neg_ℤ (pos (4294967296 * l.wire-index)) ≤ℤ l.sum) × (l.sum ≤ℤ pos (4294967296 * l.wire-index))
