@@ -1,5 +1,5 @@
 -- Sums over planned wires are sums over rows: a wire's current counts at the one row where it leaves or arrives.
-use Rattle.std.proofs.Common.{◌≡◌, ℕ, zero, suc, ◌+◌, ◌-◌, ◌<◌, ◌≤◌, cond, eqb, ◌⊎◌, List, [], ◌∷◌, length, take, ℤ, pos, ◌+ℤ◌, ◌-ℤ◌, ◌*ℤ◌, None, Option, sym, refl, ap, ◌∙◌, inl, inr, add-one, arith}
+use Rattle.std.proofs.Common.{◌≡◌, ℕ, zero, suc, ◌+◌, ◌-◌, ◌<◌, ◌≤◌, cond, eqb, ◌⊎◌, List, [], ◌∷◌, length, take, ℤ, pos, ◌+ℤ◌, ◌-ℤ◌, ◌*ℤ◌, Some, None, Option, sym, refl, ap, ◌∙◌, inl, inr, add-one, arith}
 use borrow.Author.Differences.{ints}
 use lib.IntN.{zero-*ℤ}
 use Rattle.std.specs.List.{AllByRecursion}
@@ -12,7 +12,6 @@ use Rattle.wires.specs.Wiring.{seated, row_adds}
 use Rattle.wires.proofs.Integers.{add_mul}
 use Rattle.wires.proofs.Sums.{seated_more}
 use Rattle.audit.specs.Audit.{row_at, mark_at, pins}
-use Rattle.audit.proofs.Worth.{value_more}
 use Rattle.planner.specs.declared.plan.Link.{Link}
 
 -- the sum over the numbers below n
@@ -101,6 +100,14 @@ seated_sum f rows = sym (ap (λ rs. sum f (seated rs)) (take_all (length rows) r
         let e = rw add-one at (seated_more f rows n None (omega arith)) in
         omega (arith, ints)
 
+value_more : (rows : List (Option Terminal)) (marks : List ℕ) (i : ℕ) → i < length rows → length marks ≡ length rows → value (pins (take (suc i) rows) (take (suc i) marks)) ≡ value (pins (take i rows) (take i marks)) +ℤ row_adds (λ t. worth (record { terminal = t; mark = mark_at marks i })) (row_at rows i)
+value_more [] marks i h e = absurd (omega arith)
+value_more (r ∷ rows) [] i h e = absurd (omega arith)
+value_more (Some t ∷ rows) (m ∷ marks) zero h e = omega (arith, ints)
+value_more (None ∷ rows) (m ∷ marks) zero h e = omega (arith, ints)
+value_more (Some t ∷ rows) (m ∷ marks) (suc i) h e = let rest = value_more rows marks i (omega arith) (omega arith) in omega (arith, ints)
+value_more (None ∷ rows) (m ∷ marks) (suc i) h e = value_more rows marks i (omega arith) (omega arith)
+
 pub value_sum : (rows : List (Option Terminal)) (marks : List ℕ) → length marks ≡ length rows → value (pins rows marks) ≡ sum_to (λ i. row_adds (λ t. worth (record { terminal = t; mark = mark_at marks i })) (row_at rows i)) (length rows)
 value_sum rows marks same = sym (ap (λ rs. value (pins rs (take (length rows) marks))) (take_all (length rows) rows (omega arith)) ∙ ap (λ ms. value (pins rows ms)) (take_all (length rows) marks (omega arith))) ∙ go (length rows) (omega arith)
   where
@@ -108,5 +115,5 @@ value_sum rows marks same = sym (ap (λ rs. value (pins rs (take (length rows) m
     go zero h = refl
     go (suc n) h =
         let ih = go n (omega arith) in
-        let e = rw add-one at (value_more rows marks n (omega arith) same) in
+        let e = value_more rows marks n (omega arith) same in
         omega (arith, ints)

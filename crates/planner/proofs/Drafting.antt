@@ -1,20 +1,20 @@
 -- The draft of the wires, one pair of a source and a sink after another.
-use Rattle.std.proofs.Common.{◌≡◌, ℕ, suc, ◌+◌, ◌*◌, ◌<◌, ◌≤◌, cond, [], ◌∷◌, ◌++◌, take, set, replicate, sym, refl, ap, ◌∙◌, mul-le-mul, mul-le-mul_left, zero-mul, mul-suc, arith}
-use Rattle.std.proofs.lemmas.List.{length-set, take_more_set, append-nil, append_assoc}
+use Rattle.std.proofs.Common.{◌≡◌, ℕ, suc, ◌+◌, ◌*◌, ◌<◌, ◌≤◌, cond, [], ◌∷◌, ◌++◌, length, length-append, sym, refl, ap, ◌∙◌, mul-le-mul, mul-le-mul_left, zero-mul, mul-suc, arith, List}
+use Rattle.std.proofs.lemmas.List.{append-nil, append_assoc}
 use Rattle.std.proofs.lemmas.Bool.{lt-ltb, le-ltb}
 use Rattle.transport.specs.declared.case.Case.{Case}
 use Rattle.transport.specs.declared.plan.Plan.{Plan}
 use Rattle.transport.specs.Transport.{cell, cost_of}
-use Rattle.planner.specs.declared.ends.Ends.{Ends}
+use Rattle.bounded.specs.Items.{items}
 use Rattle.planner.specs.declared.ends.costs.listing.Draft.{Draft}
 use Rattle.planner.specs.declared.plan.Link.{Link}
 use Rattle.planner.specs.Listing.{Solved, Drafted, link_at, row_links, all_links, row_cost, all_cost}
 use Rattle.transport.proofs.Sums.{sum_at}
 use Rattle.planner.proofs.Limits.{few_pairs, few_ends, supply_fits, cost_fits}
 
-module _ (case : Case) (sources sinks : Ends) (plan : Plan) (solved : Solved case sources sinks plan) where
-  pub drafted_none : (unused : Link) → Drafted case sources sinks plan.flow 0 0 (record { links = replicate 1024 unused; count = 0; area = 0 })
-  drafted_none unused = record { size = refl; lists = refl; few = omega arith; costs = refl; small = omega arith }
+module _ (case : Case) (sources sinks : List ℕ) (plan : Plan) (solved : Solved case sources sinks plan) where
+  pub drafted_none : (d : Draft) → items d.links ≡ [] → d.area ≡ 0 → Drafted case sources sinks plan.flow 0 0 d
+  drafted_none d empty free = let none = ap length empty in record { lists = empty; few = omega arith; costs = free; small = omega arith }
 
   -- the cost of one wire
   pub cost_small : (i j : ℕ) → i < case.sources → j < case.sinks → cell plan.flow i j * cost_of case i j ≤ 4000000000000
@@ -26,7 +26,7 @@ module _ (case : Case) (sources sinks : Ends) (plan : Plan) (solved : Solved cas
       mul-le-mul flow (cost_fits case solved.fits i j h k)
 
   module _ (i j : ℕ) (d : Draft) (so_far : Drafted case sources sinks plan.flow i j d) where
-    pub draft_room : i < case.sources → j < case.sinks → d.count < 1024
+    pub draft_room : i < case.sources → j < case.sinks → length (items d.links) < 1024
     draft_room h k =
         let all = few_pairs case.sources case.sinks (few_ends case solved.fits) in
         let up : suc i ≤ case.sources = omega arith in
@@ -37,7 +37,7 @@ module _ (case : Case) (sources sinks : Ends) (plan : Plan) (solved : Solved cas
 
     -- a pair between which nothing flows
     pub drafted_skip : cell plan.flow i j ≡ 0 → Drafted case sources sinks plan.flow i (suc j) d
-    drafted_skip none = record { size = so_far.size; lists = so_far.lists ∙ ap (λ ls. all_links sources sinks plan.flow case.sinks i ++ ls) (sym same); few = let few = so_far.few in omega arith; costs = costs; small = so_far.small }
+    drafted_skip none = record { lists = so_far.lists ∙ ap (λ ls. all_links sources sinks plan.flow case.sinks i ++ ls) (sym same); few = let few = so_far.few in omega arith; costs = costs; small = so_far.small }
       where
         same : row_links sources sinks plan.flow i (suc j) ≡ row_links sources sinks plan.flow i j
         same = ap (λ b. row_links sources sinks plan.flow i j ++ cond b (link_at sources sinks plan.flow i j ∷ []) []) (le-ltb 0 (cell plan.flow i j) (omega arith)) ∙ append-nil (row_links sources sinks plan.flow i j)
@@ -49,20 +49,20 @@ module _ (case : Case) (sources sinks : Ends) (plan : Plan) (solved : Solved cas
             omega arith
 
     -- a pair with a wire
-    pub drafted_push : i < case.sources → j < case.sinks → 0 < cell plan.flow i j → Drafted case sources sinks plan.flow i (suc j) (record { links = set d.links d.count (link_at sources sinks plan.flow i j); count = d.count + 1; area = d.area + cell plan.flow i j * cost_of case i j })
-    drafted_push h k some = record { size = length-set d.links d.count (link_at sources sinks plan.flow i j) ∙ so_far.size; lists = lists; few = let few = so_far.few in omega arith; costs = let is = so_far.costs in omega arith; small = let low = so_far.small in let next = cost_small i j h k in omega arith }
+    pub drafted_push : i < case.sources → j < case.sinks → 0 < cell plan.flow i j → (after : Draft) → items after.links ≡ items d.links ++ link_at sources sinks plan.flow i j ∷ [] → after.area ≡ d.area + cell plan.flow i j * cost_of case i j → Drafted case sources sinks plan.flow i (suc j) after
+    drafted_push h k some after pushed added =
+        let longer = ap length pushed ∙ length-append (items d.links) (link_at sources sinks plan.flow i j ∷ []) in
+        record { lists = lists; few = let few = so_far.few in omega arith; costs = let is = so_far.costs in omega arith; small = let low = so_far.small in let next = cost_small i j h k in omega arith }
       where
         one : row_links sources sinks plan.flow i (suc j) ≡ row_links sources sinks plan.flow i j ++ link_at sources sinks plan.flow i j ∷ []
         one = ap (λ b. row_links sources sinks plan.flow i j ++ cond b (link_at sources sinks plan.flow i j ∷ []) []) (lt-ltb 0 (cell plan.flow i j) some)
 
-        lists : take (d.count + 1) (set d.links d.count (link_at sources sinks plan.flow i j)) ≡ all_links sources sinks plan.flow case.sinks i ++ row_links sources sinks plan.flow i (suc j)
+        lists : items after.links ≡ all_links sources sinks plan.flow case.sinks i ++ row_links sources sinks plan.flow i (suc j)
         lists =
-            let room = draft_room h k in
-            let size = so_far.size in
             let old = all_links sources sinks plan.flow case.sinks i in
             let row = row_links sources sinks plan.flow i j in
-            take_more_set d.links d.count (link_at sources sinks plan.flow i j) (omega arith) ∙ ap (λ ls. ls ++ link_at sources sinks plan.flow i j ∷ []) so_far.lists ∙ append_assoc old row (link_at sources sinks plan.flow i j ∷ []) ∙ ap (λ ls. old ++ ls) (sym one)
+            pushed ∙ ap (λ ls. ls ++ link_at sources sinks plan.flow i j ∷ []) so_far.lists ∙ append_assoc old row (link_at sources sinks plan.flow i j ∷ []) ∙ ap (λ ls. old ++ ls) (sym one)
 
   -- a source whose sinks are done
   pub drafted_row : (i : ℕ) (d : Draft) → Drafted case sources sinks plan.flow i case.sinks d → Drafted case sources sinks plan.flow (suc i) 0 d
-  drafted_row i d so_far = record { size = so_far.size; lists = so_far.lists ∙ sym (append-nil (all_links sources sinks plan.flow case.sinks (suc i))); few = let few = so_far.few in let next = mul-suc case.sinks i in omega arith; costs = let is = so_far.costs in omega arith; small = so_far.small }
+  drafted_row i d so_far = record { lists = so_far.lists ∙ sym (append-nil (all_links sources sinks plan.flow case.sinks (suc i))); few = let few = so_far.few in let next = mul-suc case.sinks i in omega arith; costs = let is = so_far.costs in omega arith; small = so_far.small }

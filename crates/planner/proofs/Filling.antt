@@ -6,27 +6,28 @@ use Rattle.ruler.specs.Meaning.{Meaning}
 use Rattle.wires.specs.declared.terminal.Terminal.{Terminal}
 use Rattle.audit.specs.Audit.{row_at}
 use Rattle.transport.specs.Transport.{at, cell}
-use Rattle.planner.specs.declared.ends.Ends.{Ends}
 use Rattle.planner.specs.Costs.{Amounts, CostRow, Costs, cost_between}
+use Rattle.planner.specs.declared.side.Side.{Side}
+use Rattle.planner.specs.declared.side.Side.TheVariants.{Source, Sink}
 use Rattle.planner.specs.Ends.{amount_at}
 
-pub amounts_none : (rows : List (Option Terminal)) (ends : Ends) (giving : Bool) → Amounts rows ends giving 0 (replicate 64 0)
-amounts_none rows ends giving = record { size = length-replicate {A = ℕ} 64 0; each = λ k h. absurd (omega arith) }
+pub amounts_none : (rows : List (Option Terminal)) (ends : List ℕ) (side : Side) → Amounts rows ends side 0 (replicate 64 0)
+amounts_none rows ends side = record { size = length-replicate {A = ℕ} 64 0; each = λ k h. absurd (omega arith) }
 
-pub amounts_more : (rows : List (Option Terminal)) (ends : Ends) (giving : Bool) (n x : ℕ) (xs : List ℕ) → Amounts rows ends giving n xs → n < 64 → x ≡ amount_at rows giving (at ends.rows n) → Amounts rows ends giving (n + 1) (set xs n x)
-amounts_more rows ends giving n x xs a room is = record { size = length-set xs n x ∙ a.size; each = each }
+pub amounts_more : (rows : List (Option Terminal)) (ends : List ℕ) (side : Side) (n x : ℕ) (xs : List ℕ) → Amounts rows ends side n xs → n < 64 → x ≡ amount_at rows side (at ends n) → Amounts rows ends side (n + 1) (set xs n x)
+amounts_more rows ends side n x xs a room is = record { size = length-set xs n x ∙ a.size; each = each }
   where
-    each : (k : ℕ) → k < n + 1 → at (set xs n x) k ≡ amount_at rows giving (at ends.rows k)
+    each : (k : ℕ) → k < n + 1 → at (set xs n x) k ≡ amount_at rows side (at ends k)
     each k h = go (cases_eq k n)
       where
-        go : (k ≡ n) ⊎ (k ≡ n → ⊥) → at (set xs n x) k ≡ amount_at rows giving (at ends.rows k)
-        go (inl s) = let size = a.size in ap (at (set xs n x)) s ∙ get_or-set_same xs n x 0 (omega arith) ∙ is ∙ ap (λ i. amount_at rows giving (at ends.rows i)) (sym s)
+        go : (k ≡ n) ⊎ (k ≡ n → ⊥) → at (set xs n x) k ≡ amount_at rows side (at ends k)
+        go (inl s) = let size = a.size in ap (at (set xs n x)) s ∙ get_or-set_same xs n x 0 (omega arith) ∙ is ∙ ap (λ i. amount_at rows side (at ends i)) (sym s)
         go (inr d) = get_or-set_other xs n k x 0 d ∙ a.each k (omega arith)
 
-module _ (m : Meaning) (rows : List (Option Terminal)) (sources sinks : Ends) where
+module _ (m : Meaning) (rows : List (Option Terminal)) (sources sinks : List ℕ) where
   -- the cost that is due from source i to sink j
   abbrev fee : ℕ → ℕ → ℕ
-  fee i j = cost_between m (row_at rows (at sources.rows i)) (row_at rows (at sinks.rows j))
+  fee i j = cost_between m (row_at rows (at sources i)) (row_at rows (at sinks j))
 
   pub row_none : (i : ℕ) (xs : List ℕ) → length xs ≡ 4096 → CostRow m rows sources sinks i 0 xs xs
   row_none i xs size = record { size = size; here = λ j h. absurd (omega arith); rest = λ k j h l. refl }
@@ -44,10 +45,10 @@ module _ (m : Meaning) (rows : List (Option Terminal)) (sources sinks : Ends) wh
   pub costs_none : Costs m rows sources sinks 0 (replicate 4096 0)
   costs_none = record { size = length-replicate {A = ℕ} 4096 0; each = λ i j h l. absurd (omega arith) }
 
-  pub costs_more : (i : ℕ) (old new : List ℕ) → sinks.count ≤ 64 → Costs m rows sources sinks i old → CostRow m rows sources sinks i sinks.count old new → Costs m rows sources sinks (i + 1) new
+  pub costs_more : (i : ℕ) (old new : List ℕ) → (length sinks) ≤ 64 → Costs m rows sources sinks i old → CostRow m rows sources sinks i (length sinks) old new → Costs m rows sources sinks (i + 1) new
   costs_more i old new few c r = record { size = r.size; each = each }
     where
-      each : (k j : ℕ) → k < i + 1 → j < sinks.count → cell new k j ≡ fee k j
+      each : (k j : ℕ) → k < i + 1 → j < length sinks → cell new k j ≡ fee k j
       each k j h l = go (cases_eq k i)
         where
           go : (k ≡ i) ⊎ (k ≡ i → ⊥) → cell new k j ≡ fee k j

@@ -1,5 +1,5 @@
 -- A solved case, written down by rows, is a plan.
-use Rattle.std.proofs.Common.{◌≡◌, ℕ, ◌+◌, ◌<◌, true, false, List, [], ◌++◌, replicate, pos, neg_ℤ, ◌<ℤ◌, Some, Option, sym, ap, ◌∙◌, subst, arith}
+use Rattle.std.proofs.Common.{◌≡◌, ℕ, ◌+◌, ◌<◌, true, false, List, [], ◌++◌, replicate, pos, neg_ℤ, ◌<ℤ◌, Some, Option, sym, ap, ◌∙◌, subst, arith, length}
 use borrow.Author.Differences.{ints}
 use Rattle.std.specs.List.{AllByRecursion}
 use Rattle.std.proofs.lemmas.List.{append-nil}
@@ -10,9 +10,10 @@ use Rattle.audit.specs.Audit.{row_at, mark_at}
 use Rattle.transport.specs.declared.case.Case.{Case}
 use Rattle.transport.specs.declared.plan.Plan.{Plan as Flow}
 use Rattle.transport.specs.Transport.{at, cell}
-use Rattle.planner.specs.declared.ends.Ends.{Ends}
 use Rattle.planner.specs.declared.plan.Link.{Link}
 use Rattle.planner.specs.declared.plan.Plan.{Plan}
+use Rattle.planner.specs.declared.side.Side.{Side}
+use Rattle.planner.specs.declared.side.Side.TheVariants.{Source, Sink}
 use Rattle.planner.specs.Ends.{amount, amount_at}
 use Rattle.planner.specs.Listing.{Marked, link_at, all_links, all_cost}
 use Rattle.planner.specs.Planned.{Planned, Runs, Ascending, links_of, site_of, mark_of, wires_of, sent, received}
@@ -23,7 +24,7 @@ use Rattle.planner.proofs.Dues.{id_row, sent_by, received_by, area_is_cost}
 use Rattle.planner.proofs.Standing.{source_gives, sink_takes}
 use Rattle.planner.proofs.Weighed.{row_below}
 
-module _ (m : Meaning) (rows : List (Option Terminal)) (sources sinks : Ends) (case : Case) (flow : Flow) (posed : Posed m rows sources sinks case flow) where
+module _ (m : Meaning) (rows : List (Option Terminal)) (sources sinks : List ℕ) (case : Case) (flow : Flow) (posed : Posed m rows sources sinks case flow) where
   runs : (i j : ℕ) → i < case.sources → j < case.sinks → 0 < cell flow.flow i j → Runs rows (link_at sources sinks flow.flow i j)
   runs i j h k some =
       let are = posed.solved.sources_are in
@@ -34,40 +35,40 @@ module _ (m : Meaning) (rows : List (Option Terminal)) (sources sinks : Ends) (c
       let takes = sink.2 in
       let more = posed.gives.filled i (omega arith) in
       let less = posed.takes.filled j (omega arith) in
-      record { source = source.0; sink = sink.0; from_source = ap (row_at rows) (id_row (at sources.rows i)) ∙ source.1; to_sink = ap (row_at rows) (id_row (at sinks.rows j)) ∙ sink.1; gives = omega (arith, ints); takes = omega (arith, ints); from_1 = omega arith; to_1 = omega arith; carries = omega arith }
+      record { source = source.0; sink = sink.0; from_source = ap (row_at rows) (id_row (at sources i)) ∙ source.1; to_sink = ap (row_at rows) (id_row (at sinks j)) ∙ sink.1; gives = omega (arith, ints); takes = omega (arith, ints); from_1 = omega arith; to_1 = omega arith; carries = omega arith }
 
   sends : (i : ℕ) (t : Terminal) → row_at rows i ≡ Some t → pos 0 <ℤ t.current → pos (sent (all_links sources sinks flow.flow case.sinks case.sources) (i + 1)) ≡ t.current
   sends i t e h =
       let gives = source_gives t h in
       let some = gives.0 in
-      let is = ap (amount true) e in
+      let is = ap (amount Source) e in
       let below = row_below rows i t e in
       let full = posed.upheld.full in
       let are = posed.solved.sources_are in
       let end = posed.gives.complete i (omega arith) (omega arith) in
       let inside = end.1 in
-      ap (λ k. pos (sent (all_links sources sinks flow.flow case.sinks case.sources) (k + 1))) (sym end.2) ∙ ap pos (sent_by m rows sources sinks case flow posed end.0 (omega arith)) ∙ ap (λ k. pos (amount_at rows true k)) end.2 ∙ ap pos is ∙ gives.1
+      ap (λ k. pos (sent (all_links sources sinks flow.flow case.sinks case.sources) (k + 1))) (sym end.2) ∙ ap pos (sent_by m rows sources sinks case flow posed end.0 (omega arith)) ∙ ap (λ k. pos (amount_at rows Source k)) end.2 ∙ ap pos is ∙ gives.1
 
   receives : (i : ℕ) (t : Terminal) → row_at rows i ≡ Some t → t.current <ℤ pos 0 → pos (received (all_links sources sinks flow.flow case.sinks case.sources) (i + 1)) ≡ neg_ℤ t.current
   receives i t e h =
       let takes = sink_takes t h in
       let some = takes.0 in
-      let is = ap (amount false) e in
+      let is = ap (amount Sink) e in
       let below = row_below rows i t e in
       let full = posed.upheld.full in
       let are = posed.solved.sinks_are in
       let end = posed.takes.complete i (omega arith) (omega arith) in
       let inside = end.1 in
-      ap (λ k. pos (received (all_links sources sinks flow.flow case.sinks case.sources) (k + 1))) (sym end.2) ∙ ap pos (received_by m rows sources sinks case flow posed end.0 (omega arith)) ∙ ap (λ k. pos (amount_at rows false k)) end.2 ∙ ap pos is ∙ takes.1
+      ap (λ k. pos (received (all_links sources sinks flow.flow case.sinks case.sources) (k + 1))) (sym end.2) ∙ ap pos (received_by m rows sources sinks case flow posed end.0 (omega arith)) ∙ ap (λ k. pos (amount_at rows Sink k)) end.2 ∙ ap pos is ∙ takes.1
 
-  module _ (mid : List ℕ) (p : Plan) (first : Marked sources flow.source_mark sources.count (replicate 64 0) mid) (second : Marked sinks flow.sink_mark sinks.count mid p.marks) where
-    tight : (i j : ℕ) → i < case.sources → j < case.sinks → 0 < cell flow.flow i j → mark_of p.marks (at sinks.rows j + 1) ≡ mark_of p.marks (at sources.rows i + 1) + m.span (site_of rows (at sources.rows i + 1)) (site_of rows (at sinks.rows j + 1))
+  module _ (mid : List ℕ) (p : Plan) (first : Marked sources flow.source_mark (length sources) (replicate 64 0) mid) (second : Marked sinks flow.sink_mark (length sinks) mid p.marks) where
+    tight : (i j : ℕ) → i < case.sources → j < case.sinks → 0 < cell flow.flow i j → mark_of p.marks (at sinks j + 1) ≡ mark_of p.marks (at sources i + 1) + m.span (site_of rows (at sources i + 1)) (site_of rows (at sinks j + 1))
     tight i j h k some =
         let are = posed.solved.sources_are in
         let were = posed.solved.sinks_are in
-        let start = ap (mark_at p.marks) (id_row (at sources.rows i)) ∙ mark_of_source m rows sources sinks case flow posed mid p.marks first second i (omega arith) in
-        let stop = ap (mark_at p.marks) (id_row (at sinks.rows j)) ∙ mark_of_sink m rows sources sinks case flow posed mid p.marks first second j (omega arith) in
-        let along = ap (λ k. m.span (spot rows k) (site_of rows (at sinks.rows j + 1))) (id_row (at sources.rows i)) ∙ ap (λ k. m.span (spot rows (at sources.rows i)) (spot rows k)) (id_row (at sinks.rows j)) in
+        let start = ap (mark_at p.marks) (id_row (at sources i)) ∙ mark_of_source m rows sources sinks case flow posed mid p.marks first second i (omega arith) in
+        let stop = ap (mark_at p.marks) (id_row (at sinks j)) ∙ mark_of_sink m rows sources sinks case flow posed mid p.marks first second j (omega arith) in
+        let along = ap (λ k. m.span (spot rows k) (site_of rows (at sinks j + 1))) (id_row (at sources i)) ∙ ap (λ k. m.span (spot rows (at sources i)) (spot rows k)) (id_row (at sinks j)) in
         let rise = tight_at m rows sources sinks case flow posed i j h k some in
         omega arith
 

@@ -1,17 +1,16 @@
 -- The listed wires: what holds of each, their sums, and their order.
-use Rattle.std.proofs.Common.{◌≡◌, ℕ, zero, suc, ◌<◌, ◌≤◌, Bool, true, false, cond, ◌&&◌, eqb, ltb, List, [], ◌∷◌, ◌++◌, sym, refl, arith}
+use Rattle.std.proofs.Common.{◌≡◌, ℕ, zero, suc, ◌<◌, ◌≤◌, Bool, true, false, cond, ◌&&◌, eqb, ltb, List, [], ◌∷◌, ◌++◌, sym, refl, arith, length}
 use Rattle.std.specs.List.{AllByRecursion}
 use Rattle.std.proofs.ByRecursion.{All-append}
 use Rattle.std.proofs.lemmas.Bool.{ltb-true, ltb-false, lt-ltb, eq-eqb, and_from, or_left, or_right}
 use Rattle.wires.specs.Sums.{total}
 use Rattle.wires.proofs.Sums.{total_append}
 use Rattle.transport.specs.Transport.{cell, sum_to}
-use Rattle.planner.specs.declared.ends.Ends.{Ends}
 use Rattle.planner.specs.declared.plan.Link.{Link}
 use Rattle.planner.specs.Listing.{Placed, link_at, row_links, all_links}
 use Rattle.planner.specs.Planned.{before, Ascending}
 
-module _ (sources sinks : Ends) (flow : List ℕ) where
+module _ (sources sinks : List ℕ) (flow : List ℕ) where
   row_all : (P : Link → Type 0) (i n : ℕ) → ((j : ℕ) → j < n → 0 < cell flow i j → P (link_at sources sinks flow i j)) → AllByRecursion P (row_links sources sinks flow i n)
   row_all P i zero h = tt
   row_all P i (suc n) h = All-append P (row_links sources sinks flow i n) (cond (ltb 0 (cell flow i n)) (link_at sources sinks flow i n ∷ []) []) (row_all P i n (λ j l. h j (omega arith))) (one (ltb 0 (cell flow i n)) refl)
@@ -59,8 +58,8 @@ ascending_append (a ∷ []) [] up on across = tt
 ascending_append (a ∷ []) (b ∷ ys) up on across = (across.0.0, on)
 ascending_append (a ∷ b ∷ xs) ys up on across = (up.0, ascending_append (b ∷ xs) ys up.1 on across.1)
 
-module _ (sources sinks : Ends) (flow : List ℕ) (from : Placed sources) (to : Placed sinks) where
-  row_ascending : (i n : ℕ) → n ≤ sinks.count → Ascending (row_links sources sinks flow i n)
+module _ (sources sinks : List ℕ) (flow : List ℕ) (from : Placed sources) (to : Placed sinks) where
+  row_ascending : (i n : ℕ) → n ≤ length sinks → Ascending (row_links sources sinks flow i n)
   row_ascending i zero h = tt
   row_ascending i (suc n) h = go (ltb 0 (cell flow i n)) (row_ascending i n (omega arith))
     where
@@ -68,6 +67,6 @@ module _ (sources sinks : Ends) (flow : List ℕ) (from : Placed sources) (to : 
       go true up = ascending_append (row_links sources sinks flow i n) (link_at sources sinks flow i n ∷ []) up tt (row_all sources sinks flow (λ x. AllByRecursion (λ y. before x y ≡ true) (link_at sources sinks flow i n ∷ [])) i n (λ j l some. (before_by_to (link_at sources sinks flow i j) (link_at sources sinks flow i n) refl (let less = to.ascending j n l (omega arith) in omega arith), tt)))
       go false up = ascending_append (row_links sources sinks flow i n) [] up tt (row_all sources sinks flow (λ x. AllByRecursion (λ y. before x y ≡ true) []) i n (λ j l some. tt))
 
-  pub links_ascending : (w n : ℕ) → w ≤ sinks.count → n ≤ sources.count → Ascending (all_links sources sinks flow w n)
+  pub links_ascending : (w n : ℕ) → w ≤ length sinks → n ≤ length sources → Ascending (all_links sources sinks flow w n)
   links_ascending w zero h k = tt
   links_ascending w (suc n) h k = ascending_append (all_links sources sinks flow w n) (row_links sources sinks flow n w) (links_ascending w n h (omega arith)) (row_ascending n w h) (links_all sources sinks flow (λ x. AllByRecursion (λ y. before x y ≡ true) (row_links sources sinks flow n w)) w n (λ i j l g some. row_all sources sinks flow (λ y. before (link_at sources sinks flow i j) y ≡ true) n w (λ o p more. before_by_from (link_at sources sinks flow i j) (link_at sources sinks flow n o) (let less = from.ascending i n l (omega arith) in omega arith))))

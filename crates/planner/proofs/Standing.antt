@@ -6,11 +6,13 @@ use Rattle.ruler.specs.Meaning.{Meaning}
 use Rattle.wires.specs.declared.terminal.Terminal.{Terminal}
 use Rattle.audit.specs.Questions.{allowed, row_allowed}
 use Rattle.planner.specs.Costs.{cost_between, or_none}
+use Rattle.planner.specs.declared.side.Side.{Side}
+use Rattle.planner.specs.declared.side.Side.TheVariants.{Source, Sink}
 use Rattle.planner.specs.Ends.{given, taken, amount}
 use Rattle.planner.specs.Planned.{site_of_row}
 
 -- a row that gives has a source, and one that takes has a sink
-pub source_in : (o : Option Terminal) → 0 < amount true o → (t : Terminal) × (o ≡ Some t) × (t.current ≡ pos (amount true o))
+pub source_in : (o : Option Terminal) → 0 < amount Source o → (t : Terminal) × (o ≡ Some t) × (t.current ≡ pos (amount Source o))
 source_in (Some t) h = (t, refl, go t.current h)
   where
     go : (z : ℤ) → 0 < given z → z ≡ pos (given z)
@@ -18,7 +20,7 @@ source_in (Some t) h = (t, refl, go t.current h)
     go (negsuc n) h = absurd (omega arith)
 source_in None h = absurd (omega arith)
 
-pub sink_in : (o : Option Terminal) → 0 < amount false o → (t : Terminal) × (o ≡ Some t) × (neg_ℤ t.current ≡ pos (amount false o))
+pub sink_in : (o : Option Terminal) → 0 < amount Sink o → (t : Terminal) × (o ≡ Some t) × (neg_ℤ t.current ≡ pos (amount Sink o))
 sink_in (Some t) h = (t, refl, go t.current h)
   where
     go : (z : ℤ) → 0 < taken z → neg_ℤ z ≡ pos (taken z)
@@ -27,14 +29,14 @@ sink_in (Some t) h = (t, refl, go t.current h)
 sink_in None h = absurd (omega arith)
 
 -- a source gives its current, and a sink takes its own
-pub source_gives : (t : Terminal) → pos 0 <ℤ t.current → (0 < amount true (Some t)) × (pos (amount true (Some t)) ≡ t.current)
+pub source_gives : (t : Terminal) → pos 0 <ℤ t.current → (0 < amount Source (Some t)) × (pos (amount Source (Some t)) ≡ t.current)
 source_gives t = go t.current
   where
     go : (z : ℤ) → pos 0 <ℤ z → (0 < given z) × (pos (given z) ≡ z)
     go (pos n) h = (omega (arith, ints), refl)
     go (negsuc n) h = absurd (omega (arith, ints))
 
-pub sink_takes : (t : Terminal) → t.current <ℤ pos 0 → (0 < amount false (Some t)) × (pos (amount false (Some t)) ≡ neg_ℤ t.current)
+pub sink_takes : (t : Terminal) → t.current <ℤ pos 0 → (0 < amount Sink (Some t)) × (pos (amount Sink (Some t)) ≡ neg_ℤ t.current)
 sink_takes t = go t.current
   where
     go : (z : ℤ) → z <ℤ pos 0 → (0 < taken z) × (pos (taken z) ≡ neg_ℤ z)
@@ -42,7 +44,7 @@ sink_takes t = go t.current
     go (negsuc n) h = (omega arith, refl)
 
 -- no row does both, and one with an allowed current does either
-pub not_both : (o : Option Terminal) → 0 < amount true o → 0 < amount false o → ⊥
+pub not_both : (o : Option Terminal) → 0 < amount Source o → 0 < amount Sink o → ⊥
 not_both (Some t) g k = go t.current g k
   where
     go : (z : ℤ) → 0 < given z → 0 < taken z → ⊥
@@ -50,7 +52,7 @@ not_both (Some t) g k = go t.current g k
     go (negsuc n) g k = omega arith
 not_both None g k = omega arith
 
-pub either_way : (t : Terminal) → row_allowed (Some t) ≡ true → (0 < amount true (Some t)) ⊎ (0 < amount false (Some t))
+pub either_way : (t : Terminal) → row_allowed (Some t) ≡ true → (0 < amount Source (Some t)) ⊎ (0 < amount Sink (Some t))
 either_way t = go t.current
   where
     go : (z : ℤ) → allowed z ≡ true → (0 < given z) ⊎ (0 < taken z)

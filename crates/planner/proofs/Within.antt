@@ -14,9 +14,11 @@ use Rattle.transport.specs.declared.case.Case.{Case}
 use Rattle.transport.specs.Transport.{amounts_fit, at, balanced, cost_of, costs_fit, each, sum_to, within}
 use Rattle.transport.proofs.Every.{each_all}
 use Rattle.transport.proofs.Sums.{sum_same}
-use Rattle.planner.specs.declared.ends.Ends.{Ends}
 use Rattle.planner.specs.Costs.{Amounts, CaseOf, cost_between, or_none}
-use Rattle.planner.specs.Ends.{Gathered, amount, amount_at, given, taken}
+use Rattle.planner.specs.declared.side.Side.{Side}
+use Rattle.planner.specs.declared.side.Side.TheVariants.{Source, Sink}
+use Rattle.planner.proofs.Gathering.{Gathered}
+use Rattle.planner.specs.Ends.{amount, amount_at, given, taken}
 
 -- an allowed current gives or takes at most 1,000,000
 given_le : (z : ℤ) → allowed z ≡ true → given z ≤ 1000000
@@ -27,14 +29,14 @@ taken_le : (z : ℤ) → allowed z ≡ true → taken z ≤ 1000000
 taken_le (pos n) ok = omega arith
 taken_le (negsuc n) ok = let h = leb-true n 999999 ok in omega arith
 
-amount_le : (giving : Bool) (row : Option Terminal) → row_allowed row ≡ true → amount giving row ≤ 1000000
-amount_le true (Some t) ok = given_le t.current ok
-amount_le false (Some t) ok = taken_le t.current ok
-amount_le true None ok = omega arith
-amount_le false None ok = omega arith
+amount_le : (side : Side) (row : Option Terminal) → row_allowed row ≡ true → amount side row ≤ 1000000
+amount_le Source (Some t) ok = given_le t.current ok
+amount_le Sink (Some t) ok = taken_le t.current ok
+amount_le Source None ok = omega arith
+amount_le Sink None ok = omega arith
 
 -- no row both gives and takes
-one_side : (row : Option Terminal) → min 1 (amount true row) + min 1 (amount false row) ≤ 1
+one_side : (row : Option Terminal) → min 1 (amount Source row) + min 1 (amount Sink row) ≤ 1
 one_side (Some t) = go t.current
   where
     go : (z : ℤ) → min 1 (given z) + min 1 (taken z) ≤ 1
@@ -42,11 +44,11 @@ one_side (Some t) = go t.current
     go (negsuc n) = omega arith
 one_side None = omega arith
 
-sides_few : (rows : List (Option Terminal)) (n : ℕ) → sum_to (λ i. min 1 (amount_at rows true i)) n + sum_to (λ i. min 1 (amount_at rows false i)) n ≤ n
+sides_few : (rows : List (Option Terminal)) (n : ℕ) → sum_to (λ i. min 1 (amount_at rows Source i)) n + sum_to (λ i. min 1 (amount_at rows Sink i)) n ≤ n
 sides_few rows zero = omega arith
 sides_few rows (suc n) = let rest = sides_few rows n in let here = one_side (row_at rows n) in omega arith
 
-row_current : (row : Option Terminal) → row_adds (λ t. t.current) row ≡ pos (amount true row) -ℤ pos (amount false row)
+row_current : (row : Option Terminal) → row_adds (λ t. t.current) row ≡ pos (amount Source row) -ℤ pos (amount Sink row)
 row_current (Some t) = go t.current
   where
     go : (z : ℤ) → z ≡ pos (given z) -ℤ pos (taken z)
@@ -55,7 +57,7 @@ row_current (Some t) = go t.current
 row_current None = refl
 
 -- what is given less what is taken is the sum of the currents
-even_sides : (rows : List (Option Terminal)) (n : ℕ) → n ≤ length rows → sum (λ t. t.current) (seated (take n rows)) ≡ pos (sum_to (amount_at rows true) n) -ℤ pos (sum_to (amount_at rows false) n)
+even_sides : (rows : List (Option Terminal)) (n : ℕ) → n ≤ length rows → sum (λ t. t.current) (seated (take n rows)) ≡ pos (sum_to (amount_at rows Source) n) -ℤ pos (sum_to (amount_at rows Sink) n)
 even_sides rows zero h = refl
 even_sides rows (suc n) h =
     let rest = even_sides rows n (omega arith) in
@@ -86,12 +88,12 @@ at_most e = omega arith
 at_least : {n : ℕ} → n ≡ 64 → 64 ≤ n
 at_least e = omega arith
 
-module _ (m : Meaning) (metric : Metric m) (rows : List (Option Terminal)) (full : length rows ≡ 64) (ranged : (k : ℕ) → row_allowed (row_at rows k) ≡ true) (sources sinks : Ends) (giving : Gathered rows true 64 sources) (taking : Gathered rows false 64 sinks) (case : Case) (made : CaseOf m rows sources sinks case) where
+module _ (m : Meaning) (metric : Metric m) (rows : List (Option Terminal)) (full : length rows ≡ 64) (ranged : (k : ℕ) → row_allowed (row_at rows k) ≡ true) (sources sinks : List ℕ) (giving : Gathered rows Source 64 sources) (taking : Gathered rows Sink 64 sinks) (case : Case) (made : CaseOf m rows sources sinks case) where
   few : leb (case.sources + case.sinks) 64 ≡ true
   few = le-leb (case.sources + case.sinks) 64 (sum_le _ _ _ _ 64 (made.sources_are ∙ giving.count) (made.sinks_are ∙ taking.count) (sides_few rows 64))
 
-  amounts : (ends : Ends) (side : Bool) (n : ℕ) (xs : List ℕ) → n ≡ ends.count → Amounts rows ends side ends.count xs → amounts_fit xs n ≡ true
-  amounts ends side n xs is a = each_all (λ i. leb (at xs i) 1000000) n (λ k h. le-leb (at xs k) 1000000 (let e = a.each k (omega arith) in let l = amount_le side (row_at rows (at ends.rows k)) (ranged (at ends.rows k)) in omega arith))
+  amounts : (ends : List ℕ) (side : Side) (n : ℕ) (xs : List ℕ) → n ≡ length ends → Amounts rows ends side (length ends) xs → amounts_fit xs n ≡ true
+  amounts ends side n xs is a = each_all (λ i. leb (at xs i) 1000000) n (λ k h. le-leb (at xs k) 1000000 (let e = a.each k (omega arith) in let l = amount_le side (row_at rows (at ends k)) (ranged (at ends k)) in omega arith))
 
   costs : costs_fit case ≡ true
   costs = each_all (λ i. each (λ j. leb (cost_of case i j) 4000000) case.sinks) case.sources (λ i h. each_all (λ j. leb (cost_of case i j) 4000000) case.sinks (λ j l. le-leb (cost_of case i j) 4000000 (cheap i j h l)))
@@ -101,21 +103,21 @@ module _ (m : Meaning) (metric : Metric m) (rows : List (Option Terminal)) (full
           let a = made.sources_are in
           let b = made.sinks_are in
           let is = made.costs.each i j (omega arith) (omega arith) in
-          let c = cost_le m metric (row_at rows (at sources.rows i)) (row_at rows (at sinks.rows j)) in
+          let c = cost_le m metric (row_at rows (at sources i)) (row_at rows (at sinks j)) in
           omega arith
 
-  total : (ends : Ends) (side : Bool) (n : ℕ) (xs : List ℕ) → n ≡ ends.count → Gathered rows side 64 ends → Amounts rows ends side ends.count xs → sum_to (at xs) n ≡ sum_to (amount_at rows side) 64
-  total ends side n xs is g a = ap (sum_to (at xs)) is ∙ sum_same (λ k. amount_at rows side (at ends.rows k)) (at xs) ends.count a.each ∙ g.even
+  total : (ends : List ℕ) (side : Side) (n : ℕ) (xs : List ℕ) → n ≡ length ends → Gathered rows side 64 ends → Amounts rows ends side (length ends) xs → sum_to (at xs) n ≡ sum_to (amount_at rows side) 64
+  total ends side n xs is g a = ap (sum_to (at xs)) is ∙ sum_same (λ k. amount_at rows side (at ends k)) (at xs) (length ends) a.each ∙ g.even
 
   pub case_within : sum (λ t. t.current) (seated rows) ≡ pos 0 → within case ≡ true
   case_within even =
-      let a = total sources true case.sources case.supply made.sources_are giving made.supply in
-      let b = total sinks false case.sinks case.demand made.sinks_are taking made.demand in
+      let a = total sources Source case.sources case.supply made.sources_are giving made.supply in
+      let b = total sinks Sink case.sinks case.demand made.sinks_are taking made.demand in
       let all = ap (λ rs. sum (λ (t : Terminal). t.current) (seated rs)) (take_all 64 rows (at_most full)) in
       let sides = even_sides rows 64 (at_least full) in
       let same = level_sides _ _ _ _ a b (sym sides ∙ all ∙ even) in
       let level = eq-eqb (sum_to (at case.supply) case.sources) (sum_to (at case.demand) case.sinks) same in
       let rest = and_from (costs_fit case) (balanced case) costs level in
-      let demands = and_from (amounts_fit case.demand case.sinks) (costs_fit case && balanced case) (amounts sinks false case.sinks case.demand made.sinks_are made.demand) rest in
-      let supplies = and_from (amounts_fit case.supply case.sources) (amounts_fit case.demand case.sinks && (costs_fit case && balanced case)) (amounts sources true case.sources case.supply made.sources_are made.supply) demands in
+      let demands = and_from (amounts_fit case.demand case.sinks) (costs_fit case && balanced case) (amounts sinks Sink case.sinks case.demand made.sinks_are made.demand) rest in
+      let supplies = and_from (amounts_fit case.supply case.sources) (amounts_fit case.demand case.sinks && (costs_fit case && balanced case)) (amounts sources Source case.sources case.supply made.sources_are made.supply) demands in
       and_from (leb (case.sources + case.sinks) 64) (amounts_fit case.supply case.sources && (amounts_fit case.demand case.sinks && (costs_fit case && balanced case))) few supplies

@@ -1,6 +1,7 @@
 -- What a plan is: wires from sources to sinks in their order, and marks that show its area least.
-use Rattle.std.specs.Prelude.{◌≡◌, ℕ, ◌+◌, ◌-◌, ◌≤◌, Bool, true, cond, ◌&&◌, ◌||◌, List, [], ◌∷◌, map, take, pos, neg_ℤ, ◌<ℤ◌, Some, None, Option, ◌==◌, nat_lt}
+use Rattle.std.specs.Prelude.{◌≡◌, ℕ, ◌+◌, ◌-◌, ◌≤◌, Bool, true, cond, ◌&&◌, ◌||◌, List, [], ◌∷◌, map, pos, neg_ℤ, ◌<ℤ◌, Some, None, Option, ◌==◌, nat_lt}
 use Rattle.std.specs.List.{AllByRecursion}
+use Rattle.bounded.specs.Items.{items}
 use Rattle.ruler.specs.Meaning.{Meaning}
 use Rattle.wires.specs.declared.terminal.Terminal.{Terminal}
 use Rattle.wires.specs.declared.wire.Wire.{Wire}
@@ -12,7 +13,7 @@ use Rattle.planner.specs.declared.plan.Plan.{Plan}
 
 -- the planned wires, in their order
 abbrev pub links_of : Plan → List Link
-links_of p = take p.count p.links
+links_of p = items p.links
 
 -- the site and the mark of an id
 abbrev pub site_of_row : Option Terminal → ℕ

@@ -1,47 +1,20 @@
-// The rows of a table that give current, or that take it, in ascending order.
+// The ends of a net's wires: the places of its sources, and those of its sinks, in ascending order.
 ghost use Rattle.std.specs.Prelude.{◌≡◌};
-ghost use Rattle.planner.specs.Ends.{Gathered, amount};
+ghost use Rattle.planner.specs.Ends.{gathered};
+ghost use Rattle.planner.specs.declared.side.Side.TheVariants.{Source, Sink};
 
 use audit::table::Table;
-use wires::terminal::Terminal;
 
 mod costs;
+mod gathering;
 
 pub use costs::plan_of;
 
 #[derive(Clone, Copy)]
-struct Ends {
-    rows: [usize; 64],
-    count: usize,
-}
-
-// What a row gives, or takes: a demand is a negated current.
-fn amount_of(row: Option<Terminal>, giving: bool) -> u32
-    ensures { result ≡ amount giving row }
-{
-    match row {
-        Some(terminal) => {
-            let current = i64::from(terminal.current);
-            let amount = if giving { current } else { -current };
-            amount.max(0) as u32
-        }
-        None => 0,
-    }
-}
-
-fn ends_of(table: &Table, giving: bool) -> Ends
-    ensures { Gathered table.now.rows giving 64 result }
-{
-    let mut ends = Ends {
-        rows: [0; 64],
-        count: 0,
-    };
-    for i in 0..64 {
-        let row = table.rows[i];
-        if amount_of(row, giving) > 0 {
-            ends.rows[ends.count] = i;
-            ends.count += 1;
-        }
-    }
-    ends
+struct Ends<'a> {
+    table: &'a Table,
+    sources: &'a [usize],
+    sinks: &'a [usize],
+    ghost gives: { sources.now ≡ gathered table.now.rows Source 64 },
+    ghost takes: { sinks.now ≡ gathered table.now.rows Sink 64 },
 }

@@ -3,5 +3,6 @@
 
 mod ends;
 pub mod plan;
+mod side;
 
 pub use ends::plan_of;

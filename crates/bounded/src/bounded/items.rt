@@ -1,5 +1,5 @@
 // The calls of a list, by the items that it has.
-ghost use Rattle.std.specs.Prelude.{◌≡◌, ◌<◌, ◌≤◌, ◌↔◌, ⊤, [], ◌∷◌, ◌++◌, length, IsOk, OnOk, OnErr, IfErr};
+ghost use Rattle.std.specs.Prelude.{◌≡◌, ◌<◌, ◌≤◌, ⊤, [], ◌∷◌, ◌++◌, length, if◌then◌else◌, nat_lt, Ok, Err};
 ghost use Rattle.bounded.specs.Items.{items};
 
 use crate::bounded::Bounded;
@@ -27,10 +27,9 @@ impl<T: Copy, const N: usize> Bounded<T, N> {
 
     // One item more at the end; a full list stays as it is, and hands the item back.
     pub fn push(&mut self, item: T) -> Result<(), T>
-        ensures room { IsOk result ↔ (length (items self.old) < N) }
-        ensures ok { OnOk result (items self.new ≡ items self.old ++ item ∷ []) }
-        ensures full { OnErr result (self.new ≡ self.old) }
-        ensures returned { IfErr result (λ back. back ≡ item) }
+        ensures answer { result ≡ (if nat_lt (length (items self.old)) N then Ok tt else Err item) }
+        ensures room { length (items self.old) < N → items self.new ≡ items self.old ++ item ∷ [] }
+        ensures full { N ≤ length (items self.old) → self.new ≡ self.old }
     {
         if self.count == N {
             return Err(item);

@@ -1,11 +1,12 @@
-// The transport case of a net: its sources and sinks, and the lengths between them as costs.
-ghost use Rattle.std.specs.Prelude.{◌≡◌, ◌<◌, true, false, length};
+// The transport case of a net: what its sources have, what its sinks want, and the lengths between them as costs.
+ghost use Rattle.std.specs.Prelude.{◌≡◌, ◌<◌, length};
 ghost use Rattle.audit.specs.Audit.{row_at};
 ghost use Rattle.transport.specs.Transport.{at};
 ghost use Rattle.planner.specs.Costs.{Amounts, CaseOf, CostRow, Costs, cost_between};
-ghost use Rattle.planner.specs.Ends.{Gathered};
+ghost use Rattle.planner.specs.Ends.{gathered};
 
-use crate::ends::{Ends, amount_of};
+use crate::ends::Ends;
+use crate::side::Side;
 use audit::table::Table;
 use ruler::ruler::Ruler;
 use transport::case::Case;
@@ -17,7 +18,7 @@ pub use listing::plan_of;
 
 // The length from one row to another, 0 where there is none to tell.
 fn cost_of<R: Ruler>(ruler: &R, from: Option<Terminal>, to: Option<Terminal>) -> u32
-    ensures cost { result ≡ cost_between (R.meaning ruler.now) from to }
+    ensures { result ≡ cost_between (R.meaning ruler.now) from to }
 {
     let Some(a) = from else {
         return 0;
@@ -28,63 +29,48 @@ fn cost_of<R: Ruler>(ruler: &R, from: Option<Terminal>, to: Option<Terminal>) ->
     ruler.length(a.site, b.site).unwrap_or(0)
 }
 
-// The row that stands at a place among the gathered ones.
-fn row_at(table: &Table, ends: &Ends, k: usize) -> Option<Terminal>
-    requires { (length ends.now.rows ≡ 64) × ((k < 64) × (at ends.now.rows k < 64)) }
-    ensures { result ≡ row_at table.now.rows (at ends.now.rows k) }
-{
-    let i = ends.rows[k];
-    table.rows[i]
-}
-
-fn amounts_of(table: &Table, ends: &Ends, giving: bool) -> [u32; 64]
-    requires { Gathered table.now.rows giving 64 ends.now }
-    ensures { Amounts table.now.rows ends.now giving ends.now.count result }
+fn amounts_of(side: Side, table: &Table, rows: &[usize]) -> [u32; 64]
+    requires { rows.now ≡ gathered table.now.rows side 64 }
+    ensures { Amounts table.now.rows rows.now side (length rows.now) result }
 {
     let mut amounts = [0; 64];
-    for k in 0..ends.count {
-        amounts[k] = amount_of(row_at(table, ends, k), giving);
+    for (k, row) in rows.iter().enumerate() {
+        amounts[k] = side.amount(table.rows[*row]);
     }
     amounts
 }
 
-fn fill_row<R: Ruler>(
-    ruler: &R,
-    table: &Table,
-    sources: &Ends,
-    sinks: &Ends,
-    i: usize,
-    costs: &mut [u32; 4096],
-)
-    requires { (Gathered table.now.rows true 64 sources.now) × ((Gathered table.now.rows false 64 sinks.now) × ((i < sources.now.count) × (length costs.old ≡ 4096))) }
-    ensures { CostRow (R.meaning ruler.now) table.now.rows sources.now sinks.now i sinks.now.count costs.old costs.new }
-{
-    let from = row_at(table, sources, i);
-    for j in 0..sinks.count {
-        costs[64 * i + j] = cost_of(ruler, from, row_at(table, sinks, j));
+impl<'a> Ends<'a> {
+    // Fills in the costs from source i, which stands in that row.
+    fn fill_row<R: Ruler>(&self, ruler: &R, i: usize, from: Option<Terminal>, costs: &mut [u32; 4096])
+        requires inside { i < length self.now.sources.now }
+        requires row { from ≡ row_at self.now.table.now.rows (at self.now.sources.now i) }
+        ensures { CostRow (R.meaning ruler.now) self.now.table.now.rows self.now.sources.now self.now.sinks.now i (length self.now.sinks.now) costs.old costs.new }
+    {
+        for (j, to) in self.sinks.iter().enumerate() {
+            costs[64 * i + j] = cost_of(ruler, from, self.table.rows[*to]);
+        }
     }
-}
 
-fn costs_of<R: Ruler>(ruler: &R, table: &Table, sources: &Ends, sinks: &Ends) -> [u32; 4096]
-    requires { (Gathered table.now.rows true 64 sources.now) × (Gathered table.now.rows false 64 sinks.now) }
-    ensures { Costs (R.meaning ruler.now) table.now.rows sources.now sinks.now sources.now.count result }
-{
-    let mut costs = [0; 4096];
-    for i in 0..sources.count {
-        fill_row(ruler, table, sources, sinks, i, &mut costs);
+    fn costs<R: Ruler>(&self, ruler: &R) -> [u32; 4096]
+        ensures { Costs (R.meaning ruler.now) self.now.table.now.rows self.now.sources.now self.now.sinks.now (length self.now.sources.now) result }
+    {
+        let mut costs = [0; 4096];
+        for (i, from) in self.sources.iter().enumerate() {
+            self.fill_row(ruler, i, self.table.rows[*from], &mut costs);
+        }
+        costs
     }
-    costs
-}
 
-fn case_of<R: Ruler>(ruler: &R, table: &Table, sources: &Ends, sinks: &Ends) -> Case
-    requires { (Gathered table.now.rows true 64 sources.now) × (Gathered table.now.rows false 64 sinks.now) }
-    ensures { CaseOf (R.meaning ruler.now) table.now.rows sources.now sinks.now result }
-{
-    Case {
-        sources: sources.count,
-        sinks: sinks.count,
-        supply: amounts_of(table, sources, true),
-        demand: amounts_of(table, sinks, false),
-        cost: costs_of(ruler, table, sources, sinks),
+    fn case<R: Ruler>(&self, ruler: &R) -> Case
+        ensures { CaseOf (R.meaning ruler.now) self.now.table.now.rows self.now.sources.now self.now.sinks.now result }
+    {
+        Case {
+            sources: self.sources.len(),
+            sinks: self.sinks.len(),
+            supply: amounts_of(Side::Source, self.table, self.sources),
+            demand: amounts_of(Side::Sink, self.table, self.sinks),
+            cost: self.costs(ruler),
+        }
     }
 }

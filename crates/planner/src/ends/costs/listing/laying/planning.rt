@@ -6,10 +6,11 @@ ghost use Rattle.audit.specs.Audit.{differ};
 ghost use Rattle.audit.specs.Law.{Upheld};
 ghost use Rattle.planner.specs.Planned.{IfPlanned, Planned};
 
-use crate::ends::costs::case_of;
-use crate::ends::costs::listing::lay_out;
-use crate::ends::ends_of;
+use crate::ends::Ends;
+use crate::ends::costs::listing::Solution;
+use crate::ends::gathering::rows_on;
 use crate::plan::Plan;
+use crate::side::Side;
 use audit::table::Table;
 use ruler::ruler::Ruler;
 use transport::solve;
@@ -24,11 +25,21 @@ pub fn plan_of<R: Ruler>(ruler: &R, table: &Table) -> Option<Plan>
     if balance_of(&table.rows) != 0 {
         return None;
     }
-    let sources = ends_of(table, true);
-    let sinks = ends_of(table, false);
-    let case = case_of(ruler, table, &sources, &sinks);
-    match solve(&case) {
-        Some(solved) => Some(lay_out(&case, &sources, &sinks, &solved)),
-        None => unreachable(),
-    }
+    let sources = rows_on(Side::Source, table);
+    let sinks = rows_on(Side::Sink, table);
+    let ends = Ends {
+        table,
+        sources: sources.as_slice(),
+        sinks: sinks.as_slice(),
+    };
+    let case = ends.case(ruler);
+    let Some(plan) = solve(&case) else {
+        unreachable()
+    };
+    let solution = Solution {
+        ends,
+        case: &case,
+        plan: &plan,
+    };
+    Some(solution.lay_out())
 }
