@@ -1,5 +1,5 @@
 -- The draft of the wires, one pair of a source and a sink after another.
-use Rattle.std.proofs.Common.{◌≡◌, ℕ, suc, ◌+◌, ◌*◌, ◌<◌, ◌≤◌, cond, [], ◌∷◌, ◌++◌, length, length-append, sym, refl, ap, ◌∙◌, mul-le-mul, mul-le-mul_left, zero-mul, mul-suc, arith, List}
+use Rattle.std.proofs.Common.{◌≡◌, ℕ, suc, ◌+◌, ◌*◌, ◌<◌, ◌≤◌, cond, [], ◌∷◌, ◌++◌, length, length-append, sym, ap, ◌∙◌, mul-le-mul, mul-le-mul_left, zero-mul, mul-suc, arith, List}
 use Rattle.std.proofs.lemmas.List.{append-nil, append_assoc}
 use Rattle.std.proofs.lemmas.Bool.{lt-ltb, le-ltb}
 use Rattle.transport.specs.declared.case.Case.{Case}
@@ -7,17 +7,13 @@ use Rattle.transport.specs.declared.plan.Plan.{Plan}
 use Rattle.transport.specs.Transport.{cell, cost_of}
 use Rattle.bounded.specs.Items.{items}
 use Rattle.planner.specs.declared.ends.costs.listing.Draft.{Draft}
-use Rattle.planner.specs.declared.plan.Link.{Link}
 use Rattle.planner.specs.Listing.{Solved, Drafted, link_at, row_links, all_links, row_cost, all_cost}
 use Rattle.transport.proofs.Sums.{sum_at}
 use Rattle.planner.proofs.Limits.{few_pairs, few_ends, supply_fits, cost_fits}
 
 module _ (case : Case) (sources sinks : List ℕ) (plan : Plan) (solved : Solved case sources sinks plan) where
-  pub drafted_none : (d : Draft) → items d.links ≡ [] → d.area ≡ 0 → Drafted case sources sinks plan.flow 0 0 d
-  drafted_none d empty free = let none = ap length empty in record { lists = empty; few = omega arith; costs = free; small = omega arith }
-
   -- the cost of one wire
-  pub cost_small : (i j : ℕ) → i < case.sources → j < case.sinks → cell plan.flow i j * cost_of case i j ≤ 4000000000000
+  cost_small : (i j : ℕ) → i < case.sources → j < case.sinks → cell plan.flow i j * cost_of case i j ≤ 4000000000000
   cost_small i j h k =
       let part = sum_at (λ j. cell plan.flow i j) case.sinks j k in
       let sent = solved.optimal.sent i h in
@@ -62,7 +58,3 @@ module _ (case : Case) (sources sinks : List ℕ) (plan : Plan) (solved : Solved
             let old = all_links sources sinks plan.flow case.sinks i in
             let row = row_links sources sinks plan.flow i j in
             pushed ∙ ap (λ ls. ls ++ link_at sources sinks plan.flow i j ∷ []) so_far.lists ∙ append_assoc old row (link_at sources sinks plan.flow i j ∷ []) ∙ ap (λ ls. old ++ ls) (sym one)
-
-  -- a source whose sinks are done
-  pub drafted_row : (i : ℕ) (d : Draft) → Drafted case sources sinks plan.flow i case.sinks d → Drafted case sources sinks plan.flow (suc i) 0 d
-  drafted_row i d so_far = record { lists = so_far.lists ∙ sym (append-nil (all_links sources sinks plan.flow case.sinks (suc i))); few = let few = so_far.few in let next = mul-suc case.sinks i in omega arith; costs = let is = so_far.costs in omega arith; small = so_far.small }

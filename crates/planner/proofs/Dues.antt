@@ -9,7 +9,6 @@ use Rattle.transport.specs.declared.case.Case.{Case}
 use Rattle.transport.specs.declared.plan.Plan.{Plan}
 use Rattle.transport.specs.Transport.{at, cell, cost_of, sum_to}
 use Rattle.planner.specs.declared.plan.Link.{Link}
-use Rattle.planner.specs.declared.side.Side.{Side}
 use Rattle.planner.specs.declared.side.Side.TheVariants.{Source, Sink}
 use Rattle.planner.specs.Ends.{amount_at}
 use Rattle.planner.specs.Listing.{Placed, all_links, row_cost, all_cost}

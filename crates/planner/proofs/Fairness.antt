@@ -13,7 +13,6 @@ use Rattle.audit.proofs.Pins.{near_from_reaches}
 use Rattle.transport.specs.declared.case.Case.{Case}
 use Rattle.transport.specs.declared.plan.Plan.{Plan}
 use Rattle.transport.specs.Transport.{at, cell}
-use Rattle.planner.specs.declared.side.Side.{Side}
 use Rattle.planner.specs.declared.side.Side.TheVariants.{Source, Sink}
 use Rattle.planner.specs.Ends.{amount, amount_at}
 use Rattle.planner.specs.Listing.{Marked}

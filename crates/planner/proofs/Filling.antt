@@ -1,6 +1,6 @@
 -- Amounts and costs, written one after another.
-use Rattle.std.proofs.Common.{◌≡◌, ℕ, ◌+◌, ◌*◌, ◌<◌, ◌≤◌, Bool, ◌⊎◌, List, length, set, replicate, Option, sym, refl, ap, ◌∙◌, inl, inr, arith}
-use Rattle.std.proofs.lemmas.List.{length-set, length-replicate, get_or-set_same, get_or-set_other}
+use Rattle.std.proofs.Common.{◌≡◌, ℕ, ◌+◌, ◌*◌, ◌<◌, ◌≤◌, ◌⊎◌, List, length, set, Option, sym, ap, ◌∙◌, inl, inr, arith}
+use Rattle.std.proofs.lemmas.List.{length-set, get_or-set_same, get_or-set_other}
 use Rattle.std.proofs.lemmas.Bool.{cases_eq}
 use Rattle.ruler.specs.Meaning.{Meaning}
 use Rattle.wires.specs.declared.terminal.Terminal.{Terminal}
@@ -8,11 +8,7 @@ use Rattle.audit.specs.Audit.{row_at}
 use Rattle.transport.specs.Transport.{at, cell}
 use Rattle.planner.specs.Costs.{Amounts, CostRow, Costs, cost_between}
 use Rattle.planner.specs.declared.side.Side.{Side}
-use Rattle.planner.specs.declared.side.Side.TheVariants.{Source, Sink}
 use Rattle.planner.specs.Ends.{amount_at}
-
-pub amounts_none : (rows : List (Option Terminal)) (ends : List ℕ) (side : Side) → Amounts rows ends side 0 (replicate 64 0)
-amounts_none rows ends side = record { size = length-replicate {A = ℕ} 64 0; each = λ k h. absurd (omega arith) }
 
 pub amounts_more : (rows : List (Option Terminal)) (ends : List ℕ) (side : Side) (n x : ℕ) (xs : List ℕ) → Amounts rows ends side n xs → n < 64 → x ≡ amount_at rows side (at ends n) → Amounts rows ends side (n + 1) (set xs n x)
 amounts_more rows ends side n x xs a room is = record { size = length-set xs n x ∙ a.size; each = each }
@@ -29,9 +25,6 @@ module _ (m : Meaning) (rows : List (Option Terminal)) (sources sinks : List ℕ
   abbrev fee : ℕ → ℕ → ℕ
   fee i j = cost_between m (row_at rows (at sources i)) (row_at rows (at sinks j))
 
-  pub row_none : (i : ℕ) (xs : List ℕ) → length xs ≡ 4096 → CostRow m rows sources sinks i 0 xs xs
-  row_none i xs size = record { size = size; here = λ j h. absurd (omega arith); rest = λ k j h l. refl }
-
   pub row_more : (i n x : ℕ) (old new : List ℕ) → CostRow m rows sources sinks i n old new → i < 64 → n < 64 → x ≡ fee i n → CostRow m rows sources sinks i (n + 1) old (set new (64 * i + n) x)
   row_more i n x old new r in_row room is = record { size = length-set new (64 * i + n) x ∙ r.size; here = here; rest = λ k j h l. get_or-set_other new (64 * i + n) (64 * k + j) x 0 (λ s. omega arith) ∙ r.rest k j h l }
     where
@@ -41,9 +34,6 @@ module _ (m : Meaning) (rows : List (Option Terminal)) (sources sinks : List ℕ
           go : (j ≡ n) ⊎ (j ≡ n → ⊥) → cell (set new (64 * i + n) x) i j ≡ fee i j
           go (inl s) = let size = r.size in ap (cell (set new (64 * i + n) x) i) s ∙ get_or-set_same new (64 * i + n) x 0 (omega arith) ∙ is ∙ ap (fee i) (sym s)
           go (inr d) = get_or-set_other new (64 * i + n) (64 * i + j) x 0 (λ s. d (omega arith)) ∙ r.here j (omega arith)
-
-  pub costs_none : Costs m rows sources sinks 0 (replicate 4096 0)
-  costs_none = record { size = length-replicate {A = ℕ} 4096 0; each = λ i j h l. absurd (omega arith) }
 
   pub costs_more : (i : ℕ) (old new : List ℕ) → (length sinks) ≤ 64 → Costs m rows sources sinks i old → CostRow m rows sources sinks i (length sinks) old new → Costs m rows sources sinks (i + 1) new
   costs_more i old new few c r = record { size = r.size; each = each }

@@ -29,7 +29,7 @@ module _ (rows : List (Option Terminal)) (side : Side) where
   gathered_none = record { count = refl; inside = λ k h. absurd (omega arith); ascending = λ k l h i. absurd (omega arith); filled = λ k h. absurd (omega arith); complete = λ i h a. absurd (omega arith); even = refl }
 
   module _ (n : ℕ) (e : List ℕ) (g : Gathered rows side n e) where
-    pub gathered_count : length e ≤ n
+    gathered_count : length e ≤ n
     gathered_count = let few = count_le (amount_at rows side) n in let is = g.count in omega arith
 
     -- they stand in ascending rows

@@ -1,5 +1,5 @@
 -- A solved case, written down by rows, is a plan.
-use Rattle.std.proofs.Common.{◌≡◌, ℕ, ◌+◌, ◌<◌, true, false, List, [], ◌++◌, replicate, pos, neg_ℤ, ◌<ℤ◌, Some, Option, sym, ap, ◌∙◌, subst, arith, length}
+use Rattle.std.proofs.Common.{◌≡◌, ℕ, ◌+◌, ◌<◌, List, [], ◌++◌, replicate, pos, neg_ℤ, ◌<ℤ◌, Some, Option, sym, ap, ◌∙◌, subst, arith, length}
 use borrow.Author.Differences.{ints}
 use Rattle.std.specs.List.{AllByRecursion}
 use Rattle.std.proofs.lemmas.List.{append-nil}
@@ -12,7 +12,6 @@ use Rattle.transport.specs.declared.plan.Plan.{Plan as Flow}
 use Rattle.transport.specs.Transport.{at, cell}
 use Rattle.planner.specs.declared.plan.Link.{Link}
 use Rattle.planner.specs.declared.plan.Plan.{Plan}
-use Rattle.planner.specs.declared.side.Side.{Side}
 use Rattle.planner.specs.declared.side.Side.TheVariants.{Source, Sink}
 use Rattle.planner.specs.Ends.{amount, amount_at}
 use Rattle.planner.specs.Listing.{Marked, link_at, all_links, all_cost}

@@ -9,7 +9,6 @@ pub mod Laying
 pub mod Leastness
 pub mod Limits
 pub mod Listed
-pub mod Marking
 pub mod Reaching
 pub mod Seats
 pub mod Standing

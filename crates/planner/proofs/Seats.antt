@@ -1,5 +1,5 @@
 -- A solved case of a net, read by the rows of its sources and sinks.
-use Rattle.std.proofs.Common.{◌≡◌, ℕ, ◌+◌, ◌<◌, ◌≤◌, true, false, List, pos, neg_ℤ, Some, Option, refl, ap, ◌∙◌, arith}
+use Rattle.std.proofs.Common.{◌≡◌, ℕ, ◌+◌, ◌<◌, ◌≤◌, true, List, pos, neg_ℤ, Some, Option, refl, ap, ◌∙◌, arith}
 use Rattle.ruler.specs.Meaning.{Meaning, Metric}
 use Rattle.wires.specs.declared.terminal.Terminal.{Terminal}
 use Rattle.audit.specs.Audit.{row_at}
@@ -10,7 +10,6 @@ use Rattle.transport.specs.declared.case.Case.{Case}
 use Rattle.transport.specs.declared.plan.Plan.{Plan}
 use Rattle.transport.specs.Transport.{at, cell, cost_of, sum_to, within, Optimal}
 use Rattle.planner.specs.Costs.{CaseOf}
-use Rattle.planner.specs.declared.side.Side.{Side}
 use Rattle.planner.specs.declared.side.Side.TheVariants.{Source, Sink}
 use Rattle.planner.specs.Ends.{amount_at}
 use Rattle.planner.specs.Listing.{Solved}

@@ -1,12 +1,11 @@
 -- Terminals in the rows of sources and of sinks.
-use Rattle.std.proofs.Common.{◌≡◌, ℕ, ◌<◌, true, false, cond, leb, ◌⊎◌, ℤ, pos, negsuc, neg_ℤ, ◌<ℤ◌, Some, None, Option, refl, ap, inl, inr, arith}
+use Rattle.std.proofs.Common.{◌≡◌, ℕ, ◌<◌, true, cond, leb, ◌⊎◌, ℤ, pos, negsuc, neg_ℤ, ◌<ℤ◌, Some, None, Option, refl, ap, inl, inr, arith}
 use borrow.Author.Differences.{ints}
 use Rattle.std.proofs.lemmas.Bool.{and_parts, and_from, leb-true}
 use Rattle.ruler.specs.Meaning.{Meaning}
 use Rattle.wires.specs.declared.terminal.Terminal.{Terminal}
 use Rattle.audit.specs.Questions.{allowed, row_allowed}
 use Rattle.planner.specs.Costs.{cost_between, or_none}
-use Rattle.planner.specs.declared.side.Side.{Side}
 use Rattle.planner.specs.declared.side.Side.TheVariants.{Source, Sink}
 use Rattle.planner.specs.Ends.{given, taken, amount}
 use Rattle.planner.specs.Planned.{site_of_row}

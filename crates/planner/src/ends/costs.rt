@@ -42,7 +42,13 @@ fn amounts_of(side: Side, table: &Table, rows: &[usize]) -> [u32; 64]
 
 impl<'a> Ends<'a> {
     // Fills in the costs from source i, which stands in that row.
-    fn fill_row<R: Ruler>(&self, ruler: &R, i: usize, from: Option<Terminal>, costs: &mut [u32; 4096])
+    fn fill_row<R: Ruler>(
+        &self,
+        ruler: &R,
+        i: usize,
+        from: Option<Terminal>,
+        costs: &mut [u32; 4096],
+    )
         requires inside { i < length self.now.sources.now }
         requires row { from ≡ row_at self.now.table.now.rows (at self.now.sources.now i) }
         ensures { CostRow (R.meaning ruler.now) self.now.table.now.rows self.now.sources.now self.now.sinks.now i (length self.now.sinks.now) costs.old costs.new }

@@ -1,4 +1,4 @@
-use Rattle.std.proofs.Common.{subst, arith}
+use Rattle.std.proofs.Common.{arith}
 use Rattle.planner.proofs.Filling.{amounts_more}
 use Rattle.planner.proofs.Gathering.{placed_is}
 use Rattle.planner.proofs.ends.costs.amounts_of.Goals as goal

@@ -1,4 +1,4 @@
-use Rattle.std.proofs.Common.{◌≡◌, ℕ, ◌+◌, ◌*◌, ◌<◌, [], ◌∷◌, ◌++◌, List, sym, subst, ap, ap₂, ◌∙◌, add-one, arith}
+use Rattle.std.proofs.Common.{ℕ, ◌+◌, ◌*◌, ◌<◌, [], ◌∷◌, ◌++◌, List, sym, subst, ap, ap₂, ◌∙◌, add-one, arith}
 use Rattle.bounded.specs.Items.{items}
 use Rattle.transport.specs.Transport.{at, cell}
 use Rattle.planner.specs.declared.ends.costs.listing.Draft.{Draft}
