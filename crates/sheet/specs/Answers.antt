@@ -1,11 +1,12 @@
 -- What calls answer on a sheet: as the ledger has them, and of its plan, which the ledger leaves undecided, what it holds.
-use Rattle.std.specs.Prelude.{ℕ, cond, is_some, Some, None, Option, nat_lt, slice_index_or}
+use Rattle.std.specs.Prelude.{ℕ, is_some, Some, None, Ok, Err, Option, Result, slice_get}
+use Rattle.std.specs.Option.{option_map}
 use Rattle.ruler.specs.Meaning.{Meaning}
 use Rattle.wires.specs.Wiring.{area}
 use Rattle.audit.specs.declared.refusal.Refusal.{Refusal}
-use Rattle.planner.specs.declared.plan.Link.{Link}
+use Rattle.audit.specs.declared.refusal.Refusal.TheVariants.{NotPlanned}
 use Rattle.planner.specs.declared.plan.Plan as stored
-use Rattle.planner.specs.Planned.{mark_of}
+use Rattle.planner.specs.Planned.{links_of, mark_of}
 use Rattle.sheet.specs.declared.call.Answer.{Answer}
 use Rattle.sheet.specs.declared.call.Answer.TheVariants as answers
 use Rattle.sheet.specs.declared.call.Call.{Call}
@@ -17,16 +18,18 @@ use Rattle.sheet.specs.Ledger.{Ledger, asked}
 abbrev pub ledger_of : Net → Ledger
 ledger_of net = record { rows = net.table.rows; planned = is_some net.plan }
 
+-- the plan, or the no of the question that asks for it
+abbrev pub given : Option stored.Plan → Result stored.Plan Refusal
+given (Some p) = Ok p
+given None = Err NotPlanned
+
 -- the area of a plan, its wire by number, and its mark of an id
 abbrev pub told_area : Option stored.Plan → ℕ
 told_area (Some p) = p.area
 told_area None = 0
 
-abbrev pub no_link : Link
-no_link = record { from = 0; to = 0; current = 0 }
-
 abbrev pub told_wire : Option stored.Plan → ℕ → Option (ℕ × ℕ × ℕ)
-told_wire (Some p) n = cond (nat_lt n p.count) (Some ((slice_index_or p.links n no_link).from, (slice_index_or p.links n no_link).to, (slice_index_or p.links n no_link).current)) None
+told_wire (Some p) n = option_map (λ l. (l.from, l.to, l.current)) (slice_get (links_of p) n)
 told_wire None n = None
 
 abbrev pub told_mark : Option stored.Plan → ℕ → ℕ

@@ -1,5 +1,6 @@
 -- The questions that calls are put to.
-use Rattle.std.specs.Prelude.{ℕ, ◌-◌, Bool, true, not, ◌&&◌, List, [], ◌∷◌, ℤ, pos, is_some, Some, None, Option, nat_le, slice_index_or}
+use Rattle.std.specs.Prelude.{ℕ, ◌-◌, Bool, true, not, ◌&&◌, List, ℤ, pos, is_some, Some, None, Option, nat_le, slice_index_or}
+use Rattle.std.specs.List.{list_all}
 use Rattle.ruler.specs.Meaning.{Meaning}
 use Rattle.wires.specs.declared.terminal.Terminal.{Terminal}
 use Rattle.wires.specs.Sums.{sum}
@@ -15,8 +16,7 @@ row_of rows id = slice_index_or rows (id - 1) None
 
 -- no row has a terminal
 abbrev pub bare : List (Option Terminal) → Bool
-bare [] = true
-bare (row ∷ rows) = not (is_some row) && bare rows
+bare rows = list_all (λ row. not (is_some row)) rows
 
 abbrev pub id_in_range : ℕ → Option Refusal
 id_in_range id = ask (nat_le 1 id && nat_le id 64) (IdOutOfRange id)

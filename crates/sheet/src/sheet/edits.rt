@@ -1,5 +1,5 @@
 // The edits: each is put to its questions first, and then changes one row and no other.
-ghost use Rattle.std.specs.Prelude.{◌≡◌, ◌-◌, ◌≤◌, true, [], ◌∷◌, Some, None, Ok, Err, slice_set};
+ghost use Rattle.std.specs.Prelude.{◌≡◌, ◌-◌, ◌≤◌, true, [], ◌∷◌, Some, None, Ok, Err, OnOk, slice_set};
 ghost use Rattle.audit.specs.Law.{Upheld};
 ghost use Rattle.audit.specs.Questions.{allowed, first_no, outcome, row_allowed};
 ghost use Rattle.sheet.specs.Questions.{id_in_range, id_is_seated, row_known, row_of, site_is_known};
@@ -9,15 +9,10 @@ ghost use Rattle.sheet.specs.Ledger.{asked, fed, unless};
 ghost use Rattle.sheet.specs.declared.call.Call.TheVariants.{Seat, Move, Alter, Lift};
 
 use crate::sheet::Sheet;
+use audit::current::is_allowed;
 use audit::refusal::Refusal;
 use ruler::ruler::Ruler;
 use wires::terminal::Terminal;
-
-fn is_allowed(current: i32) -> bool
-    ensures { result ≡ allowed current }
-{
-    current != 0 && -1_000_000 <= current && current <= 1_000_000
-}
 
 impl<R: Ruler> Sheet<R> {
     pub fn seat(&mut self, id: u32, site: u32, current: i32) -> Result<(), Refusal>
@@ -27,9 +22,7 @@ impl<R: Ruler> Sheet<R> {
         ensures same { self.new.ruler ≡ self.old.ruler }
         ensures law { Lawful (R.meaning self.old.ruler) self.old.net → Lawful (R.meaning self.new.ruler) self.new.net }
     {
-        if let Some(refusal) = self.seat_question(id, site, current) {
-            return Err(refusal);
-        }
+        self.seat_question(id, site, current)?;
         self.enter(id, Some(Terminal { site, current }));
         Ok(())
     }
@@ -42,9 +35,7 @@ impl<R: Ruler> Sheet<R> {
         ensures law { Lawful (R.meaning self.old.ruler) self.old.net → Lawful (R.meaning self.new.ruler) self.new.net }
     {
         let pin = self.seated(id)?;
-        if let Some(refusal) = self.site_question(id, site) {
-            return Err(refusal);
-        }
+        self.site_question(id, site)?;
         self.enter(id, Some(Terminal { site, ..pin }));
         Ok(())
     }
@@ -57,7 +48,7 @@ impl<R: Ruler> Sheet<R> {
         ensures law { Lawful (R.meaning self.old.ruler) self.old.net → Lawful (R.meaning self.new.ruler) self.new.net }
     {
         let pin = self.seated(id)?;
-        if !is_allowed(current) {
+        if !is_allowed(i64::from(current)) {
             return Err(Refusal::CurrentOutOfRange { id });
         }
         self.enter(id, Some(Terminal { current, ..pin }));
@@ -97,44 +88,46 @@ impl<R: Ruler> Sheet<R> {
         self.net.plan = None;
     }
 
-    // The first no of the questions that seat is put to.
-    fn seat_question(&self, id: u32, site: u32, current: i32) -> Option<Refusal>
-        ensures asked { result ≡ asked (R.meaning self.now.ruler) (ledger_of self.now.net) (Seat id site current) }
-        ensures known { result ≡ None → (R.meaning self.now.ruler).known site ≡ true }
+    // The questions that seat is put to.
+    fn seat_question(&self, id: u32, site: u32, current: i32) -> Result<(), Refusal>
+        ensures asked { result ≡ outcome (asked (R.meaning self.now.ruler) (ledger_of self.now.net) (Seat id site current)) tt }
+        ensures known { OnOk result ((R.meaning self.now.ruler).known site ≡ true) }
     {
-        if id < 1 || id > 64 {
-            return Some(Refusal::IdOutOfRange { id });
+        if self.row(id)?.is_some() {
+            return Err(Refusal::IdTaken { id });
         }
-        let row = self.net.table.rows[id as usize - 1];
-        if row.is_some() {
-            return Some(Refusal::IdTaken { id });
-        }
-        if !is_allowed(current) {
-            return Some(Refusal::CurrentOutOfRange { id });
+        if !is_allowed(i64::from(current)) {
+            return Err(Refusal::CurrentOutOfRange { id });
         }
         self.site_question(id, site)
     }
 
-    fn site_question(&self, id: u32, site: u32) -> Option<Refusal>
-        ensures asked { result ≡ site_is_known (R.meaning self.now.ruler) id site }
-        ensures known { result ≡ None → (R.meaning self.now.ruler).known site ≡ true }
+    fn site_question(&self, id: u32, site: u32) -> Result<(), Refusal>
+        ensures asked { result ≡ outcome (site_is_known (R.meaning self.now.ruler) id site) tt }
+        ensures known { OnOk result ((R.meaning self.now.ruler).known site ≡ true) }
     {
         let Some(_) = self.ruler.length(site, site) else {
-            return Some(Refusal::SiteUnknown { id });
+            return Err(Refusal::SiteUnknown { id });
         };
-        None
+        Ok(())
     }
 
-    // The terminal of an id, or the first no of the two questions that ask for one.
-    fn seated(&self, id: u32) -> Result<Terminal, Refusal>
-        ensures found { elim result [ Ok t ↦ (1 ≤ id) × (id ≤ 64) × (row_of self.now.net.table.rows id ≡ Some t) | Err e ↦ Some e ≡ first_no (id_in_range id ∷ id_is_seated self.now.net.table.rows id ∷ []) ] }
-        ensures known { elim result [ Ok t ↦ (Upheld (R.meaning self.now.ruler) self.now.net.table.rows → (R.meaning self.now.ruler).known t.site ≡ true) | Err e ↦ Unit {0} ] }
+    // The row of an id.
+    fn row(&self, id: u32) -> Result<Option<Terminal>, Refusal>
+        ensures { result ≡ outcome (id_in_range id) (row_of self.now.net.table.rows id) }
     {
         if id < 1 || id > 64 {
             return Err(Refusal::IdOutOfRange { id });
         }
-        let row = self.net.table.rows[id as usize - 1];
-        let Some(terminal) = row else {
+        Ok(self.net.table.rows[id as usize - 1])
+    }
+
+    // The terminal of an id, or the first no of the two questions that ask for one.
+    pub(super) fn seated(&self, id: u32) -> Result<Terminal, Refusal>
+        ensures found { elim result [ Ok t ↦ (1 ≤ id) × (id ≤ 64) × (row_of self.now.net.table.rows id ≡ Some t) | Err e ↦ Some e ≡ first_no (id_in_range id ∷ id_is_seated self.now.net.table.rows id ∷ []) ] }
+        ensures known { elim result [ Ok t ↦ (Upheld (R.meaning self.now.ruler) self.now.net.table.rows → (R.meaning self.now.ruler).known t.site ≡ true) | Err e ↦ Unit {0} ] }
+    {
+        let Some(terminal) = self.row(id)? else {
             return Err(Refusal::IdFree { id });
         };
         Ok(terminal)

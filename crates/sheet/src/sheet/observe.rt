@@ -2,7 +2,7 @@
 ghost use Rattle.std.specs.Prelude.{◌≡◌};
 ghost use Rattle.std.specs.Option.{option_map};
 ghost use Rattle.audit.specs.Questions.{outcome};
-ghost use Rattle.sheet.specs.Answers.{ledger_of, told_area, told_mark, told_wire};
+ghost use Rattle.sheet.specs.Answers.{given, ledger_of, told_area, told_mark, told_wire};
 ghost use Rattle.sheet.specs.Ledger.{asked};
 ghost use Rattle.sheet.specs.Questions.{bare};
 ghost use Rattle.sheet.specs.declared.call.Call.TheVariants.{Area, Mark, Wire};
@@ -24,13 +24,7 @@ impl<R: Ruler> Sheet<R> {
     pub fn is_bare(&self) -> bool
         ensures { result ≡ bare self.now.net.table.rows }
     {
-        for i in 0..64 {
-            let row = self.net.table.rows[i];
-            if row.is_some() {
-                return false;
-            }
-        }
-        true
+        self.net.table.rows.iter().all(|row| row.is_none())
     }
 
     // The plan, where the sheet is planned.
@@ -40,45 +34,35 @@ impl<R: Ruler> Sheet<R> {
         self.net.plan.as_ref()
     }
 
+    // The plan, or the no of the question that asks for it.
+    fn plan_asked(&self) -> Result<Plan, Refusal>
+        ensures { result ≡ given self.now.net.plan }
+    {
+        self.net.plan.ok_or(Refusal::NotPlanned)
+    }
+
     // The area of the plan.
     pub fn area(&self) -> Result<u64, Refusal>
         ensures { result ≡ outcome (asked (R.meaning self.now.ruler) (ledger_of self.now.net) Area) (told_area self.now.net.plan) }
     {
-        match self.net.plan {
-            Some(plan) => Ok(plan.area),
-            None => Err(Refusal::NotPlanned),
-        }
+        Ok(self.plan_asked()?.area)
     }
 
     // A wire of the plan by number: from id, to id and current, absent past the last.
     pub fn wire(&self, number: u32) -> Result<Option<(u32, u32, u32)>, Refusal>
         ensures { result ≡ outcome (asked (R.meaning self.now.ruler) (ledger_of self.now.net) (Wire number)) (told_wire self.now.net.plan number) }
     {
-        let Some(plan) = self.net.plan else {
-            return Err(Refusal::NotPlanned);
-        };
-        let number = number as usize;
-        if number >= plan.count {
-            return Ok(None);
-        }
-        let link = plan.links[number];
-        Ok(Some((link.from, link.to, link.current)))
+        let plan = self.plan_asked()?;
+        let link = plan.links.as_slice().get(number as usize);
+        Ok(link.map(|link| (link.from, link.to, link.current)))
     }
 
     // The mark of an id.
     pub fn mark(&self, id: u32) -> Result<u32, Refusal>
         ensures { result ≡ outcome (asked (R.meaning self.now.ruler) (ledger_of self.now.net) (Mark id)) (told_mark self.now.net.plan id) }
     {
-        if id < 1 || id > 64 {
-            return Err(Refusal::IdOutOfRange { id });
-        }
-        let row = self.net.table.rows[id as usize - 1];
-        if row.is_none() {
-            return Err(Refusal::IdFree { id });
-        }
-        let Some(plan) = self.net.plan else {
-            return Err(Refusal::NotPlanned);
-        };
+        self.seated(id)?;
+        let plan = self.plan_asked()?;
         Ok(plan.marks[id as usize - 1])
     }
 }

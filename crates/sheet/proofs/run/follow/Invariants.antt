@@ -5,8 +5,11 @@ use Rattle.sheet.specs.Law.{Lawful}
 use Rattle.sheet.specs.Ledger.{course, opened}
 use Rattle.sheet.proofs.run.follow.Given as goal
 
-abbrev pub invariant-loop-i : goal.invariant-loop-i
-invariant-loop-i g l =
-    (l.sheet.ruler ≡ l.initial.sheet.ruler)
-    × (ledger_of l.sheet.net ≡ course (g.R.Ruler.meaning l.initial.sheet.ruler) opened (take l.i l.calls))
-    × Lawful (g.R.Ruler.meaning l.sheet.ruler) l.sheet.net
+abbrev pub invariant-loop-call : goal.invariant-loop-call
+invariant-loop-call g l =
+    let m = g.R.Ruler.meaning l.fn.ruler in
+    record {
+      kept : l.sheet.ruler ≡ l.fn.ruler;
+      ledger : ledger_of l.sheet.net ≡ course m opened (take l.call-index l.calls);
+      law : Lawful m l.sheet.net;
+    }

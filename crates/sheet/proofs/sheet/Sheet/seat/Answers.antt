@@ -1,0 +1,9 @@
+use Rattle.std.proofs.Common.{rules}
+use Rattle.sheet.proofs.Chains.{no_from}
+use Rattle.sheet.proofs.sheet.Sheet.seat.Goals as goal
+
+pub returns-in_err-seat_question-clause-after : goal.returns-in_err-seat_question-clause-after
+returns-in_err-seat_question-clause-after g c = let no = no_from _ _ _ c.in_err-seat_question.ensures.asked in search (rules, no)
+
+pub returns-in_err-seat_question-clause-plan : goal.returns-in_err-seat_question-clause-plan
+returns-in_err-seat_question-clause-plan g c = let no = no_from _ _ _ c.in_err-seat_question.ensures.asked in search (rules, no)
