@@ -2,6 +2,9 @@
 ghost use Rattle.std.specs.Prelude.{◌≡◌};
 ghost use Rattle.audit.specs.Refusals.{number_of, place_of};
 
+use std::fmt;
+use std::fmt::Display;
+
 #[derive(Clone, Copy, PartialEq, Eq, Debug)]
 pub enum Refusal {
     IdOutOfRange { id: u32 },
@@ -63,5 +66,11 @@ impl Refusal {
             | Refusal::WireCount
             | Refusal::AreaDiffers => 0,
         }
+    }
+}
+
+impl Display for Refusal {
+    fn fmt<W: fmt::Write>(&self, f: &mut fmt::Formatter<W>) -> fmt::Result {
+        write!(f, "refused {}", self.number())
     }
 }

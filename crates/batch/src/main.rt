@@ -6,6 +6,7 @@ use ruler::plane::Plane;
 use sheet::sheet::Sheet;
 use std::alloc::{AllocError, AllocFailed, Global};
 use std::num::ParseIntError;
+use std::str::SplitAsciiWhitespace;
 use std::time::Instant;
 use std::{env, io};
 
@@ -18,16 +19,11 @@ struct Pin {
     current: i32,
 }
 
-// The nets up to the end of the text, or up to the first word that is malformed.
+// Why the nets end before the text does.
 #[derive(Drop)]
-struct Batch {
-    nets: Vec<Vec<Pin>>,
-    malformed: bool,
-}
-
 enum Fault {
     Malformed,
-    Memory,
+    Memory(AllocError),
 }
 
 impl From<ParseIntError> for Fault {
@@ -37,110 +33,51 @@ impl From<ParseIntError> for Fault {
 }
 
 impl<T: Drop> From<AllocFailed<T>> for Fault {
-    fn from(_refused: AllocFailed<T>) -> Fault {
-        Fault::Memory
+    fn from(refused: AllocFailed<T>) -> Fault {
+        Fault::Memory(AllocError::from(refused))
     }
 }
 
-// Which number comes next.
-#[derive(Clone, Copy)]
-enum Next {
-    Count,
-    X,
-    Y { x: u16 },
-    Current { x: u16, y: u16 },
+fn next_word<'a>(words: &mut SplitAsciiWhitespace<'a>) -> Result<&'a str, Fault> {
+    words.next().ok_or(Fault::Malformed)
 }
 
-// The nets that are read in full, and the one that is being read.
-#[derive(Drop)]
-struct Reader {
-    heap: Global,
-    nets: Vec<Vec<Pin>>,
-    pins: Vec<Pin>,
-    count: usize,
-    next: Next,
-}
-
-impl Reader {
-    fn take_count(&mut self, count: usize) -> Result<(), Fault> {
-        if count > 64 {
-            return Err(Fault::Malformed);
-        }
-        self.count = count;
-        self.end_pin()
-    }
-
-    // Goes on to the next pin, or to the next net after the last.
-    fn end_pin(&mut self) -> Result<(), Fault> {
-        if self.pins.len() < self.count {
-            self.next = Next::X;
-            return Ok(());
-        }
-        let pins = std::mem::replace(&mut self.pins, Vec::new(self.heap));
-        self.nets.push(pins)?;
-        self.next = Next::Count;
-        Ok(())
-    }
-
-    fn take(&mut self, word: &str) -> Result<(), Fault> {
-        match self.next {
-            Next::Count => self.take_count(word.parse::<usize>()?),
-            Next::X => {
-                let x = word.parse::<u16>()?;
-                self.next = Next::Y { x };
-                Ok(())
-            }
-            Next::Y { x } => {
-                let y = word.parse::<u16>()?;
-                self.next = Next::Current { x, y };
-                Ok(())
-            }
-            Next::Current { x, y } => {
-                let current = word.parse::<i32>()?;
-                self.pins.push(Pin { x, y, current })?;
-                self.end_pin()
-            }
-        }
-    }
-
-    fn take_all(&mut self, text: &str) -> Result<(), Fault> {
-        for word in text.split_ascii_whitespace() {
-            self.take(word)?;
-        }
-        match self.next {
-            Next::Count => Ok(()),
-            _ => Err(Fault::Malformed),
-        }
-    }
-}
-
-impl Batch {
-    // What is left of an input that is no text.
-    fn unread(heap: Global) -> Batch {
-        Batch {
-            nets: Vec::new(heap),
-            malformed: true,
-        }
-    }
-}
-
-fn read_nets(heap: Global, text: &str) -> Result<Batch, AllocError> {
-    let mut reader = Reader {
-        heap,
-        nets: Vec::new(heap),
-        pins: Vec::new(heap),
-        count: 0,
-        next: Next::Count,
-    };
-    let malformed = match reader.take_all(text) {
-        Ok(()) => false,
-        Err(Fault::Malformed) => true,
-        Err(Fault::Memory) => return Err(AllocError),
-    };
-    Ok(Batch {
-        nets: reader.nets,
-        malformed,
+fn read_pin(words: &mut SplitAsciiWhitespace) -> Result<Pin, Fault> {
+    Ok(Pin {
+        x: next_word(words)?.parse::<u16>()?,
+        y: next_word(words)?.parse::<u16>()?,
+        current: next_word(words)?.parse::<i32>()?,
     })
+}
+
+fn read_net(
+    heap: Global,
+    count: &str,
+    words: &mut SplitAsciiWhitespace,
+) -> Result<Vec<Pin>, Fault> {
+    let count = count.parse::<usize>()?;
+    if count > 64 {
+        return Err(Fault::Malformed);
+    }
+    let mut pins = Vec::new(heap);
+    for _ in 0..count {
+        pins.push(read_pin(words)?)?;
+    }
+    Ok(pins)
+}
+
+// Adds the nets up to the end of the text, or up to the first that is not whole.
+fn read_nets(heap: Global, text: &str, nets: &mut Vec<Vec<Pin>>) -> Result<(), Fault> {
+    let mut words = text.split_ascii_whitespace();
+    // No text has more nets than bytes.
+    for _ in 0..text.len() {
+        let Some(count) = words.next() else {
+            break;
+        };
+        let net = read_net(heap, count, &mut words)?;
+        nets.push(net)?;
+    }
+    Ok(())
 }
 
 // A net's sheet, its plan and its area.
@@ -148,9 +85,7 @@ fn read_nets(heap: Global, text: &str) -> Result<Batch, AllocError> {
 // The pins under ids 1, 2 and on, not planned yet.
 fn seated(pins: &[Pin]) -> Result<Sheet<Plane>, Refusal> {
     let mut sheet = Sheet::open(Plane);
-    let mut id = 0u32;
-    for pin in pins {
-        id = id.saturating_add(1);
+    for (id, pin) in (1..).zip(pins) {
         sheet.seat(id, Plane::site(pin.x, pin.y), pin.current)?;
     }
     Ok(sheet)
@@ -167,10 +102,7 @@ fn print_areas(rt: &HostRuntime, nets: &Vec<Vec<Pin>>) -> io::Result<()> {
     for pins in nets.iter() {
         match area_of(pins.as_slice()) {
             Ok(area) => println!(rt; "{area}")?,
-            Err(refusal) => {
-                let number = refusal.number();
-                println!(rt; "refused {number}")?;
-            }
+            Err(refusal) => println!(rt; "{refusal}")?,
         }
     }
     Ok(())
@@ -213,37 +145,43 @@ fn report(rt: &HostRuntime, nets: &Vec<Vec<Pin>>, rounds: u32) -> io::Result<()>
     eprintln!(rt; "{micros} microseconds, {plans} plans")
 }
 
-// The number of rounds that the arguments `time R` ask for, 0 without them.
-fn rounds_asked(rt: &HostRuntime) -> io::Result<u32> {
+// The number of rounds that the arguments `time R` ask for.
+fn rounds_asked(rt: &HostRuntime) -> io::Result<Option<u32>> {
     let mut args = env::args(rt)?.skip(1);
     let Some(word) = args.next() else {
-        return Ok(0);
+        return Ok(None);
     };
     let Some(rounds) = args.next() else {
-        return Ok(0);
+        return Ok(None);
     };
     if word.as_str() != "time" {
-        return Ok(0);
+        return Ok(None);
     }
-    Ok(rounds.as_str().parse::<u32>().unwrap_or(0))
+    Ok(rounds.as_str().parse::<u32>().ok())
 }
 
-fn read_batch(rt: &HostRuntime, heap: Global) -> io::Result<Batch> {
-    match io::read_to_string(heap, rt.stdin()) {
-        Ok(text) => Ok(read_nets(heap, text.as_str())?),
-        Err(_) => Ok(Batch::unread(heap)),
-    }
+// An input that is no text is malformed from its start.
+fn read_input(rt: &HostRuntime, heap: Global, nets: &mut Vec<Vec<Pin>>) -> Result<(), Fault> {
+    let Ok(text) = io::read_to_string(heap, rt.stdin()) else {
+        return Err(Fault::Malformed);
+    };
+    read_nets(heap, text.as_str(), nets)
 }
 
 fn main(rt: HostRuntime) -> io::Result<()> {
     let rounds = rounds_asked(&rt)?;
-    let batch = read_batch(&rt, rt.alloc())?;
-    print_areas(&rt, &batch.nets)?;
-    if batch.malformed {
+    let mut nets = Vec::new(rt.alloc());
+    let malformed = match read_input(&rt, rt.alloc(), &mut nets) {
+        Ok(()) => false,
+        Err(Fault::Malformed) => true,
+        Err(Fault::Memory(error)) => return Err(error.into()),
+    };
+    print_areas(&rt, &nets)?;
+    if malformed {
         println!(rt; "malformed")?;
     }
-    if rounds > 0 {
-        report(&rt, &batch.nets, rounds)?;
+    if let Some(rounds) = rounds {
+        report(&rt, &nets, rounds)?;
     }
     Ok(())
 }

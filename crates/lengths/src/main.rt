@@ -5,21 +5,17 @@ use ruler::map::{Map, Step, charted};
 use ruler::ruler::Ruler;
 use std::alloc::{AllocError, AllocFailed, Global};
 use std::num::ParseIntError;
+use std::str::SplitAsciiWhitespace;
 use std::time::Instant;
 use std::{env, io};
 
 // Maps from text: sites, ring and the number of legs, then from, to and length of each, all as words between blanks.
 
-// The steps of each map up to the end of the text, or up to the first word that is malformed.
+// Why the maps end before the text does.
 #[derive(Drop)]
-struct Atlas {
-    maps: Vec<Vec<Step>>,
-    malformed: bool,
-}
-
 enum Fault {
     Malformed,
-    Memory,
+    Memory(AllocError),
 }
 
 impl From<ParseIntError> for Fault {
@@ -29,110 +25,53 @@ impl From<ParseIntError> for Fault {
 }
 
 impl<T: Drop> From<AllocFailed<T>> for Fault {
-    fn from(_refused: AllocFailed<T>) -> Fault {
-        Fault::Memory
+    fn from(refused: AllocFailed<T>) -> Fault {
+        Fault::Memory(AllocError::from(refused))
     }
 }
 
-// Which number comes next.
-#[derive(Clone, Copy)]
-enum Next {
-    Sites,
-    Ring { sites: u32 },
-    Legs { sites: u32, ring: u32 },
-    From,
-    To { from: u32 },
-    Length { from: u32, to: u32 },
+fn next_number(words: &mut SplitAsciiWhitespace) -> Result<u32, Fault> {
+    let word = words.next().ok_or(Fault::Malformed)?;
+    Ok(word.parse::<u32>()?)
 }
 
-// The maps that are read in full, and the one that is being read.
-#[derive(Drop)]
-struct Reader {
-    heap: Global,
-    maps: Vec<Vec<Step>>,
-    steps: Vec<Step>,
-    legs: u32,
-    next: Next,
-}
-
-impl Reader {
-    // Goes on to the next leg, or to the next map after the last.
-    fn end_step(&mut self) -> Result<(), Fault> {
-        if self.legs > 0 {
-            self.legs -= 1;
-            self.next = Next::From;
-            return Ok(());
-        }
-        let steps = std::mem::replace(&mut self.steps, Vec::new(self.heap));
-        self.maps.push(steps)?;
-        self.next = Next::Sites;
-        Ok(())
-    }
-
-    fn take(&mut self, number: u32) -> Result<(), Fault> {
-        match self.next {
-            Next::Sites => self.next = Next::Ring { sites: number },
-            Next::Ring { sites } => self.next = Next::Legs {
-                sites,
-                ring: number,
-            },
-            Next::Legs { sites, ring } => {
-                self.steps.push(Step::Begin { sites, ring })?;
-                self.legs = number;
-                self.end_step()?;
-            }
-            Next::From => self.next = Next::To { from: number },
-            Next::To { from } => self.next = Next::Length { from, to: number },
-            Next::Length { from, to } => {
-                self.steps.push(Step::Leg {
-                    from,
-                    to,
-                    length: number,
-                })?;
-                self.end_step()?;
-            }
-        }
-        Ok(())
-    }
-
-    fn take_all(&mut self, text: &str) -> Result<(), Fault> {
-        for word in text.split_ascii_whitespace() {
-            self.take(word.parse::<u32>()?)?;
-        }
-        match self.next {
-            Next::Sites => Ok(()),
-            _ => Err(Fault::Malformed),
-        }
-    }
-}
-
-impl Atlas {
-    // What is left of an input that is no text.
-    fn unread(heap: Global) -> Atlas {
-        Atlas {
-            maps: Vec::new(heap),
-            malformed: true,
-        }
-    }
-}
-
-fn read_maps(heap: Global, text: &str) -> Result<Atlas, AllocError> {
-    let mut reader = Reader {
-        heap,
-        maps: Vec::new(heap),
-        steps: Vec::new(heap),
-        legs: 0,
-        next: Next::Sites,
-    };
-    let malformed = match reader.take_all(text) {
-        Ok(()) => false,
-        Err(Fault::Malformed) => true,
-        Err(Fault::Memory) => return Err(AllocError),
-    };
-    Ok(Atlas {
-        maps: reader.maps,
-        malformed,
+fn read_leg(words: &mut SplitAsciiWhitespace) -> Result<Step, Fault> {
+    Ok(Step::Leg {
+        from: next_number(words)?,
+        to: next_number(words)?,
+        length: next_number(words)?,
     })
+}
+
+// The steps of a map.
+fn read_map(
+    heap: Global,
+    sites: &str,
+    words: &mut SplitAsciiWhitespace,
+) -> Result<Vec<Step>, Fault> {
+    let mut steps = Vec::new(heap);
+    steps.push(Step::Begin {
+        sites: sites.parse::<u32>()?,
+        ring: next_number(words)?,
+    })?;
+    for _ in 0..next_number(words)? {
+        steps.push(read_leg(words)?)?;
+    }
+    Ok(steps)
+}
+
+// Adds the maps up to the end of the text, or up to the first that is not whole.
+fn read_maps(heap: Global, text: &str, maps: &mut Vec<Vec<Step>>) -> Result<(), Fault> {
+    let mut words = text.split_ascii_whitespace();
+    // No text has more maps than bytes.
+    for _ in 0..text.len() {
+        let Some(sites) = words.next() else {
+            break;
+        };
+        let map = read_map(heap, sites, &mut words)?;
+        maps.push(map)?;
+    }
+    Ok(())
 }
 
 // The lengths of a map; a map whose begin was refused knows no site and has no line.
@@ -191,37 +130,43 @@ fn report(rt: &HostRuntime, maps: &Vec<Vec<Step>>, rounds: u32) -> io::Result<()
     eprintln!(rt; "{micros} microseconds, {legs} legs, sum {sum}")
 }
 
-// The number of rounds that the arguments `time R` ask for, 0 without them.
-fn rounds_asked(rt: &HostRuntime) -> io::Result<u32> {
+// The number of rounds that the arguments `time R` ask for.
+fn rounds_asked(rt: &HostRuntime) -> io::Result<Option<u32>> {
     let mut args = env::args(rt)?.skip(1);
     let Some(word) = args.next() else {
-        return Ok(0);
+        return Ok(None);
     };
     let Some(rounds) = args.next() else {
-        return Ok(0);
+        return Ok(None);
     };
     if word.as_str() != "time" {
-        return Ok(0);
+        return Ok(None);
     }
-    Ok(rounds.as_str().parse::<u32>().unwrap_or(0))
+    Ok(rounds.as_str().parse::<u32>().ok())
 }
 
-fn read_atlas(rt: &HostRuntime, heap: Global) -> io::Result<Atlas> {
-    match io::read_to_string(heap, rt.stdin()) {
-        Ok(text) => Ok(read_maps(heap, text.as_str())?),
-        Err(_) => Ok(Atlas::unread(heap)),
-    }
+// An input that is no text is malformed from its start.
+fn read_input(rt: &HostRuntime, heap: Global, maps: &mut Vec<Vec<Step>>) -> Result<(), Fault> {
+    let Ok(text) = io::read_to_string(heap, rt.stdin()) else {
+        return Err(Fault::Malformed);
+    };
+    read_maps(heap, text.as_str(), maps)
 }
 
 fn main(rt: HostRuntime) -> io::Result<()> {
     let rounds = rounds_asked(&rt)?;
-    let atlas = read_atlas(&rt, rt.alloc())?;
-    print_maps(&rt, &atlas.maps)?;
-    if atlas.malformed {
+    let mut maps = Vec::new(rt.alloc());
+    let malformed = match read_input(&rt, rt.alloc(), &mut maps) {
+        Ok(()) => false,
+        Err(Fault::Malformed) => true,
+        Err(Fault::Memory(error)) => return Err(error.into()),
+    };
+    print_maps(&rt, &maps)?;
+    if malformed {
         println!(rt; "malformed")?;
     }
-    if rounds > 0 {
-        report(&rt, &atlas.maps, rounds)?;
+    if let Some(rounds) = rounds {
+        report(&rt, &maps, rounds)?;
     }
     Ok(())
 }

@@ -22,10 +22,7 @@ fn show(rt: &HostRuntime, answer: Answer) -> io::Result<()> {
         Answer::Wire(Some((from, to, current))) => print!(rt; ", {from} to {to} carries {current}"),
         Answer::Wire(None) => Ok(()),
         Answer::Mark(mark) => print!(rt; " mark {mark}"),
-        Answer::Refused(refusal) => {
-            let number = refusal.number();
-            print!(rt; " refused {number}")
-        }
+        Answer::Refused(refusal) => print!(rt; " {refusal}"),
     }
 }
 
@@ -38,9 +35,8 @@ fn plan_over<R: Ruler + Drop>(
 ) -> io::Result<()> {
     let mut sheet = follow(ruler, calls);
     print!(rt; "{name}:")?;
-    for i in 0..nets::SHOWN.len() {
-        let answer = perform(&mut sheet, &nets::SHOWN[i]);
-        show(rt, answer)?;
+    for call in &nets::SHOWN {
+        show(rt, perform(&mut sheet, call))?;
     }
     println!(rt; "")
 }

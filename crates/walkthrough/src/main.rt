@@ -5,24 +5,30 @@ use ruler::plane::Plane;
 use sheet::call::{Answer, Call};
 use sheet::run::{follow, perform};
 use sheet::sheet::Sheet;
-use std::io;
+use std::fmt::Display;
+use std::{fmt, io};
 use wires::wire::Wire;
 
 mod calls;
 
-fn show_site(rt: &HostRuntime, site: u32) -> io::Result<()> {
-    let x = site % 65_536;
-    let y = site / 65_536;
-    print!(rt; " ({x},{y})")
+// A site of the plane, shown as its point.
+#[derive(Clone, Copy)]
+struct Point(u32);
+
+impl Display for Point {
+    fn fmt<W: fmt::Write>(&self, f: &mut fmt::Formatter<W>) -> fmt::Result {
+        write!(f, "({},{})", self.0 % 65_536, self.0 / 65_536)
+    }
 }
 
 fn show_list(rt: &HostRuntime, wires: &[Wire]) -> io::Result<()> {
     for wire in wires {
-        show_site(rt, wire.start)?;
-        print!(rt; " to")?;
-        show_site(rt, wire.end)?;
-        let current = wire.current;
-        print!(rt; " carries {current},")?;
+        print!(rt;
+            " {} to {} carries {},",
+            Point(wire.start),
+            Point(wire.end),
+            wire.current
+        )?;
     }
     Ok(())
 }
@@ -42,14 +48,8 @@ fn show_call(rt: &HostRuntime, call: &Call) -> io::Result<()> {
             id,
             site: at,
             current,
-        } => {
-            print!(rt; "seat {id} with {current} at")?;
-            show_site(rt, at)
-        }
-        Call::Move { id, site: at } => {
-            print!(rt; "move {id} to")?;
-            show_site(rt, at)
-        }
+        } => print!(rt; "seat {id} with {current} at {}", Point(at)),
+        Call::Move { id, site: at } => print!(rt; "move {id} to {}", Point(at)),
         Call::Alter { id, current } => print!(rt; "alter {id} to {current}"),
         Call::Lift { id } => print!(rt; "lift {id}"),
         Call::Plan => print!(rt; "plan"),
@@ -73,20 +73,15 @@ fn show_answer(rt: &HostRuntime, answer: Answer) -> io::Result<()> {
         ),
         Answer::Wire(None) => println!(rt; ": absent"),
         Answer::Mark(mark) => println!(rt; ": {mark}"),
-        Answer::Refused(refusal) => {
-            let number = refusal.number();
-            let place = refusal.place();
-            println!(rt; ": refused {number}, place {place}")
-        }
+        Answer::Refused(refusal) => println!(rt; ": {refusal}, place {}", refusal.place()),
     }
 }
 
 // Makes the calls, and prints each with its answer.
 fn act(rt: &HostRuntime, sheet: &mut Sheet<Plane>, calls: &[Call]) -> io::Result<()> {
-    for i in 0..calls.len() {
-        show_call(rt, &calls[i])?;
-        let answer = perform(sheet, &calls[i]);
-        show_answer(rt, answer)?;
+    for call in calls {
+        show_call(rt, call)?;
+        show_answer(rt, perform(sheet, call))?;
     }
     Ok(())
 }
@@ -99,10 +94,7 @@ fn file(
     marks: [u32; 4],
 ) -> io::Result<()> {
     let mut table = [0; 64];
-    table[0] = marks[0];
-    table[1] = marks[1];
-    table[2] = marks[2];
-    table[3] = marks[3];
+    table[..4].copy_from_slice(&marks);
     let call = Call::Audit {
         wires,
         marks: &table,
@@ -113,10 +105,10 @@ fn file(
 
 // The mark that a call answers, 0 where it answers none.
 fn mark_of(sheet: &mut Sheet<Plane>, call: &Call) -> u32 {
-    match perform(sheet, call) {
-        Answer::Mark(mark) => mark,
-        _ => 0,
-    }
+    let Answer::Mark(mark) = perform(sheet, call) else {
+        return 0;
+    };
+    mark
 }
 
 // The planned wire that a call answers, between the sites of ids 1 to 4.
@@ -139,8 +131,8 @@ fn wire_of(sheet: &mut Sheet<Plane>, call: &Call, sites: [u32; 4]) -> Option<Wir
 // Files the sheet's own two wires with its own marks.
 fn file_own(rt: &HostRuntime, sheet: &mut Sheet<Plane>, sites: [u32; 4]) -> io::Result<()> {
     let mut marks = [0; 4];
-    for i in 0..4 {
-        marks[i] = mark_of(sheet, &calls::MARKS[i]);
+    for (mark, call) in marks.iter_mut().zip(&calls::MARKS) {
+        *mark = mark_of(sheet, call);
     }
     let Some(first) = wire_of(sheet, &calls::WIRES[0], sites) else {
         return println!(rt; "no first wire");
@@ -154,8 +146,8 @@ fn file_own(rt: &HostRuntime, sheet: &mut Sheet<Plane>, sites: [u32; 4]) -> io::
 // Whether two sheets answer the calls alike.
 fn alike(a: &mut Sheet<Plane>, b: &mut Sheet<Plane>, calls: &[Call]) -> bool {
     let mut alike = true;
-    for i in 0..calls.len() {
-        alike = perform(a, &calls[i]) == perform(b, &calls[i]) && alike;
+    for call in calls {
+        alike = perform(a, call) == perform(b, call) && alike;
     }
     alike
 }
