@@ -20,7 +20,7 @@ use Rattle.planner.proofs.Listed.{links_all, links_ascending}
 use Rattle.planner.proofs.Fairness.{mark_of_source, mark_of_sink, fit, reach}
 use Rattle.planner.proofs.Seats.{Posed, spot, source_at, sink_at, tight_at}
 use Rattle.planner.proofs.Dues.{id_row, sent_by, received_by, area_is_cost}
-use Rattle.planner.proofs.Standing.{source_gives, sink_takes}
+use Rattle.planner.proofs.Standing.{is_sink_from, is_source_from, source_gives, sink_takes}
 use Rattle.planner.proofs.Weighed.{row_below}
 
 module _ (m : Meaning) (rows : List (Option Terminal)) (sources sinks : List ℕ) (case : Case) (flow : Flow) (posed : Posed m rows sources sinks case flow) where
@@ -34,7 +34,7 @@ module _ (m : Meaning) (rows : List (Option Terminal)) (sources sinks : List ℕ
       let takes = sink.2 in
       let more = posed.gives.filled i (omega arith) in
       let less = posed.takes.filled j (omega arith) in
-      record { source = source.0; sink = sink.0; from_source = ap (row_at rows) (id_row (at sources i)) ∙ source.1; to_sink = ap (row_at rows) (id_row (at sinks j)) ∙ sink.1; gives = omega (arith, ints); takes = omega (arith, ints); from_1 = omega arith; to_1 = omega arith; carries = omega arith }
+      record { from_source = is_source_from _ source.0 (ap (row_at rows) (id_row (at sources i)) ∙ source.1) (omega (arith, ints)); to_sink = is_sink_from _ sink.0 (ap (row_at rows) (id_row (at sinks j)) ∙ sink.1) (omega (arith, ints)); from_1 = omega arith; to_1 = omega arith; carries = omega arith }
 
   sends : (i : ℕ) (t : Terminal) → row_at rows i ≡ Some t → pos 0 <ℤ t.current → pos (sent (all_links sources sinks flow.flow case.sinks case.sources) (i + 1)) ≡ t.current
   sends i t e h =

@@ -25,6 +25,7 @@ use Rattle.planner.specs.declared.plan.Link.{Link}
 use Rattle.planner.specs.declared.plan.Plan.{Plan}
 use Rattle.planner.specs.Planned.{Planned, Runs, links_of, site_of_row, site_of, mark_of, laid, wires_of}
 use Rattle.planner.proofs.Carried.{sum_to, sum_to_same, seated_sum, value_sum}
+use Rattle.planner.proofs.Standing.{source_from, sink_from}
 use Rattle.planner.proofs.Weighed.{weighed}
 
 -- a share of an amount is the amount times a share of 1
@@ -80,7 +81,10 @@ module _ (m : Meaning) (metric : Metric m) (rows : List (Option Terminal)) (up :
       known i t e = ap (λ o. m.known (site_of_row o)) e ∙ row_from_seated (λ t. m.known t.site ≡ true) rows i t e up.known
 
       lie : (l : Link) → Runs rows l → Lies m (laid rows l)
-      lie l r = record { leaves = known (l.from - 1) r.source r.from_source; arrives = known (l.to - 1) r.sink r.to_sink }
+      lie l r =
+          let source = source_from (row_at rows (l.from - 1)) r.from_source in
+          let sink = sink_from (row_at rows (l.to - 1)) r.to_sink in
+          record { leaves = known (l.from - 1) source.0 source.1; arrives = known (l.to - 1) sink.0 sink.1 }
 
   same : length p.marks ≡ length rows
   same = full ∙ sym up.full

@@ -3,6 +3,7 @@ pub mod Counting
 pub mod Drafting
 pub mod Dues
 pub mod Fairness
+pub mod Facts
 pub mod Filling
 pub mod Gathering
 pub mod Laying

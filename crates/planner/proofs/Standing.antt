@@ -1,14 +1,15 @@
 -- Terminals in the rows of sources and of sinks.
-use Rattle.std.proofs.Common.{◌≡◌, ℕ, ◌<◌, true, cond, leb, ◌⊎◌, ℤ, pos, negsuc, neg_ℤ, ◌<ℤ◌, Some, None, Option, refl, ap, inl, inr, arith}
+use Rattle.std.proofs.Common.{◌≡◌, ℕ, ◌<◌, true, cond, leb, ◌⊎◌, ℤ, pos, negsuc, neg_ℤ, ◌<ℤ◌, Some, None, Option, sym, refl, ap, ◌∙◌, inl, inr, arith}
 use borrow.Author.Differences.{ints}
-use Rattle.std.proofs.lemmas.Bool.{and_parts, and_from, leb-true}
+use lib.Signed.{lt_z}
+use Rattle.std.proofs.lemmas.Bool.{false≢true, and_parts, and_from, leb-true}
 use Rattle.ruler.specs.Meaning.{Meaning}
 use Rattle.wires.specs.declared.terminal.Terminal.{Terminal}
 use Rattle.audit.specs.Questions.{allowed, row_allowed}
 use Rattle.planner.specs.Costs.{cost_between, or_none}
 use Rattle.planner.specs.declared.side.Side.TheVariants.{Source, Sink}
 use Rattle.planner.specs.Ends.{given, taken, amount}
-use Rattle.planner.specs.Planned.{site_of_row}
+use Rattle.planner.specs.Planned.{is_sink, is_source, site_of_row}
 
 -- a row that gives has a source, and one that takes has a sink
 pub source_in : (o : Option Terminal) → 0 < amount Source o → (t : Terminal) × (o ≡ Some t) × (t.current ≡ pos (amount Source o))
@@ -63,3 +64,19 @@ pub cost_is_span : (m : Meaning) (o p : Option Terminal) (t u : Terminal) → o 
 cost_is_span m (Some a) (Some b) t u e f k l = ap (λ c. or_none (cond c (Some (m.span a.site b.site)) None)) (and_from (m.known a.site) (m.known b.site) k l)
 cost_is_span m (Some a) None t u e f k l = absurd (let z : ◌≡◌ {A = ℕ} 0 1 = cc in omega arith)
 cost_is_span m None p t u e f k l = absurd (let z : ◌≡◌ {A = ℕ} 0 1 = cc in omega arith)
+
+-- the terminal of a row that is a source, and of one that is a sink
+pub source_from : (o : Option Terminal) → is_source o ≡ true → (t : Terminal) × (o ≡ Some t) × (pos 0 <ℤ t.current)
+source_from (Some t) e = (t, refl, omega (arith, ints))
+source_from None e = absurd (false≢true e)
+
+pub sink_from : (o : Option Terminal) → is_sink o ≡ true → (t : Terminal) × (o ≡ Some t) × (t.current <ℤ pos 0)
+sink_from (Some t) e = (t, refl, omega (arith, ints))
+sink_from None e = absurd (false≢true e)
+
+-- and back
+pub is_source_from : (o : Option Terminal) (t : Terminal) → o ≡ Some t → pos 0 <ℤ t.current → is_source o ≡ true
+is_source_from o t e h = ap is_source e ∙ (let here : true ≡ lt_z (pos 0) t.current = omega (arith, ints) in sym here)
+
+pub is_sink_from : (o : Option Terminal) (t : Terminal) → o ≡ Some t → t.current <ℤ pos 0 → is_sink o ≡ true
+is_sink_from o t e h = ap is_sink e ∙ (let here : true ≡ lt_z t.current (pos 0) = omega (arith, ints) in sym here)

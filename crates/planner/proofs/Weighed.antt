@@ -14,6 +14,7 @@ use Rattle.audit.specs.Audit.{row_at}
 use Rattle.planner.specs.declared.plan.Link.{Link}
 use Rattle.planner.specs.declared.plan.Plan.{Plan}
 use Rattle.planner.specs.Planned.{Planned, Runs, links_of, sent, received}
+use Rattle.planner.proofs.Standing.{source_from, sink_from}
 use Rattle.planner.proofs.Carried.{sum_to, sum_to_same, sum_to_sub, carried_sum, carried_none}
 
 pub row_below : (rows : List (Option Terminal)) (i : ℕ) (t : Terminal) → row_at rows i ≡ Some t → i < length rows
@@ -28,12 +29,14 @@ module _ (rows : List (Option Terminal)) (i : ℕ) where
   not_from : ((t : Terminal) → row_at rows i ≡ Some t → pos 0 <ℤ t.current → ⊥) → (l : Link) → Runs rows l → l.from ≡ i + 1 → ⊥
   not_from none l r e =
       let here : l.from - 1 ≡ i = omega arith in
-      none r.source (sym (ap (row_at rows) here) ∙ r.from_source) r.gives
+      let source = source_from (row_at rows (l.from - 1)) r.from_source in
+      none source.0 (sym (ap (row_at rows) here) ∙ source.1) source.2
 
   not_to : ((t : Terminal) → row_at rows i ≡ Some t → t.current <ℤ pos 0 → ⊥) → (l : Link) → Runs rows l → l.to ≡ i + 1 → ⊥
   not_to none l r e =
       let here : l.to - 1 ≡ i = omega arith in
-      none r.sink (sym (ap (row_at rows) here) ∙ r.to_sink) r.takes
+      let sink = sink_from (row_at rows (l.to - 1)) r.to_sink in
+      none sink.0 (sym (ap (row_at rows) here) ∙ sink.1) sink.2
 
 module _ (m : Meaning) (rows : List (Option Terminal)) (p : Plan) (plan : Planned m rows p) where
   sent_none : (i : ℕ) → ((t : Terminal) → row_at rows i ≡ Some t → pos 0 <ℤ t.current → ⊥) → sent (links_of p) (i + 1) ≡ 0
@@ -73,8 +76,8 @@ module _ (m : Meaning) (rows : List (Option Terminal)) (p : Plan) (plan : Planne
   -- currents weighed by how much w falls along each wire are the rows' currents weighed by w
   pub weighed : (w : ℕ → ℤ) → sum (λ l. pos l.current *ℤ (w (l.from - 1) -ℤ w (l.to - 1))) (links_of p) ≡ sum_to (λ i. row_adds (λ t. t.current *ℤ w i) (row_at rows i)) (length rows)
   weighed w =
-      let leave = carried_sum (λ l. l.from) w (length rows) (links_of p) (All-weaker (Runs rows) (λ l. (1 ≤ l.from) × (l.from ≤ length rows)) (λ l r. let h = row_below rows (l.from - 1) r.source r.from_source in (r.from_1, omega arith)) (links_of p) plan.runs) in
-      let arrive = carried_sum (λ l. l.to) w (length rows) (links_of p) (All-weaker (Runs rows) (λ l. (1 ≤ l.to) × (l.to ≤ length rows)) (λ l r. let h = row_below rows (l.to - 1) r.sink r.to_sink in (r.to_1, omega arith)) (links_of p) plan.runs) in
+      let leave = carried_sum (λ l. l.from) w (length rows) (links_of p) (All-weaker (Runs rows) (λ l. (1 ≤ l.from) × (l.from ≤ length rows)) (λ l r. let source = source_from (row_at rows (l.from - 1)) r.from_source in let h = row_below rows (l.from - 1) source.0 source.1 in (r.from_1, omega arith)) (links_of p) plan.runs) in
+      let arrive = carried_sum (λ l. l.to) w (length rows) (links_of p) (All-weaker (Runs rows) (λ l. (1 ≤ l.to) × (l.to ≤ length rows)) (λ l r. let sink = sink_from (row_at rows (l.to - 1)) r.to_sink in let h = row_below rows (l.to - 1) sink.0 sink.1 in (r.to_1, omega arith)) (links_of p) plan.runs) in
       let split = falls (links_of p) in
       let apart = sum_to_sub (λ i. pos (sent (links_of p) (i + 1)) *ℤ w i) (λ i. pos (received (links_of p) (i + 1)) *ℤ w i) (length rows) in
       let rows_are = sum_to_same (λ i. pos (sent (links_of p) (i + 1)) *ℤ w i -ℤ pos (received (links_of p) (i + 1)) *ℤ w i) (λ i. row_adds (λ t. t.current *ℤ w i) (row_at rows i)) (length rows) (λ i h. at i) in

@@ -1,5 +1,5 @@
 -- What a plan is: wires from sources to sinks in their order, and marks that show its area least.
-use Rattle.std.specs.Prelude.{◌≡◌, ℕ, ◌+◌, ◌-◌, ◌≤◌, Bool, true, cond, ◌&&◌, ◌||◌, List, [], ◌∷◌, map, pos, neg_ℤ, ◌<ℤ◌, Some, None, Option, ◌==◌, nat_lt}
+use Rattle.std.specs.Prelude.{◌≡◌, ℕ, ◌+◌, ◌-◌, ◌≤◌, Bool, true, false, cond, ◌&&◌, ◌||◌, List, [], ◌∷◌, map, pos, neg_ℤ, ◌<ℤ◌, Some, None, Option, ◌==◌, int_lt, nat_lt}
 use Rattle.std.specs.List.{AllByRecursion}
 use Rattle.bounded.specs.Items.{items}
 use Rattle.ruler.specs.Meaning.{Meaning}
@@ -33,14 +33,19 @@ laid rows l = record { start = site_of rows l.from; end = site_of rows l.to; cur
 abbrev pub wires_of : List (Option Terminal) → List Link → List Wire
 wires_of rows ls = map (laid rows) ls
 
+-- a row that gives current, and one that takes it
+abbrev pub is_source : Option Terminal → Bool
+is_source (Some t) = int_lt (pos 0) t.current
+is_source None = false
+
+abbrev pub is_sink : Option Terminal → Bool
+is_sink (Some t) = int_lt t.current (pos 0)
+is_sink None = false
+
 -- it goes from a source to a sink and carries at least 1
 pub record Runs (rows : List (Option Terminal)) (l : Link) : Type 0 where
-  pub source : Terminal
-  pub sink : Terminal
-  pub from_source : row_at rows (l.from - 1) ≡ Some source
-  pub to_sink : row_at rows (l.to - 1) ≡ Some sink
-  pub gives : pos 0 <ℤ source.current
-  pub takes : sink.current <ℤ pos 0
+  pub from_source : is_source (row_at rows (l.from - 1)) ≡ true
+  pub to_sink : is_sink (row_at rows (l.to - 1)) ≡ true
   pub from_1 : 1 ≤ l.from
   pub to_1 : 1 ≤ l.to
   pub carries : 1 ≤ l.current

@@ -14,7 +14,7 @@ fn attempt<R: Ruler>(sheet: &mut Sheet<R>, call: &Call) -> Result<Answer, Refusa
     ensures answer { result ≡ outcome (asked (R.meaning sheet.old.ruler) (ledger_of sheet.old.net) call.now) (granted (R.meaning sheet.old.ruler) sheet.old.net call.now) }
     ensures after { ledger_of sheet.new.net ≡ fed (R.meaning sheet.old.ruler) (ledger_of sheet.old.net) call.now }
     ensures same { sheet.new.ruler ≡ sheet.old.ruler }
-    ensures law { Lawful (R.meaning sheet.old.ruler) sheet.old.net → Lawful (R.meaning sheet.new.ruler) sheet.new.net }
+    ensures law { Lawful (R.meaning sheet.new.ruler) sheet.new.net }
 {
     match *call {
         Call::Seat { id, site, current } => sheet.seat(id, site, current).map(|()| Answer::Done),
@@ -34,7 +34,7 @@ pub fn perform<R: Ruler>(sheet: &mut Sheet<R>, call: &Call) -> Answer
     ensures answer { result ≡ answered (R.meaning sheet.old.ruler) sheet.old.net call.now }
     ensures after { ledger_of sheet.new.net ≡ fed (R.meaning sheet.old.ruler) (ledger_of sheet.old.net) call.now }
     ensures same { sheet.new.ruler ≡ sheet.old.ruler }
-    ensures law { Lawful (R.meaning sheet.old.ruler) sheet.old.net → Lawful (R.meaning sheet.new.ruler) sheet.new.net }
+    ensures law { Lawful (R.meaning sheet.new.ruler) sheet.new.net }
 {
     attempt(sheet, call).unwrap_or_else(Answer::Refused)
 }

@@ -1,6 +1,9 @@
 // A sheet keeps one net over one ruler, which it owns, so nothing changes that ruler while the sheet lasts.
 ghost use Rattle.std.specs.Prelude.{◌≡◌};
 ghost use Rattle.audit.specs.Audit.{audit_asked};
+ghost use Rattle.audit.specs.Law.{Upheld};
+ghost use Rattle.planner.specs.Planned.{IfPlanned, Planned};
+ghost use Rattle.planner.proofs.Facts.{IfPlanned-prop, Upheld-prop};
 ghost use Rattle.audit.specs.Questions.{outcome};
 ghost use Rattle.wires.specs.Wiring.{area};
 ghost use Rattle.sheet.specs.Answers.{ledger_of};
@@ -9,7 +12,6 @@ ghost use Rattle.sheet.specs.Ledger.{opened};
 
 use crate::net::Net;
 use audit::refusal::Refusal;
-use audit::table::Table;
 use ruler::ruler::Ruler;
 use wires::wire::Wire;
 
@@ -21,17 +23,8 @@ mod planning;
 pub struct Sheet<R: Ruler> {
     ruler: R,
     net: Net,
-}
-
-// No terminals and no plan; the law holds of them over any ruler.
-fn empty_net<R: Ruler>(_ruler: &R) -> Net
-    ensures ledger { ledger_of result ≡ opened }
-    ensures law { Lawful (R.meaning _ruler.now) result }
-{
-    Net {
-        table: Table { rows: [None; 64] },
-        plan: None,
-    }
+    ghost upheld: { Upheld (R.meaning ruler) net.table.rows } by { Upheld-prop _ _ },
+    ghost planned: { IfPlanned net.plan (Planned (R.meaning ruler) net.table.rows) } by { IfPlanned-prop _ _ _ },
 }
 
 impl<R: Ruler> Sheet<R> {
@@ -41,7 +34,7 @@ impl<R: Ruler> Sheet<R> {
         ensures ledger { ledger_of result.net ≡ opened }
         ensures law { Lawful (R.meaning ruler) result.net }
     {
-        let net = empty_net(&ruler);
+        let net = Net::empty();
         Sheet { ruler, net }
     }
 

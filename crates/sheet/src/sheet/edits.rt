@@ -1,6 +1,5 @@
 // The edits: each is put to its questions first, and then changes one row and no other.
-ghost use Rattle.std.specs.Prelude.{◌≡◌, ◌-◌, ◌≤◌, true, [], ◌∷◌, Some, None, Ok, Err, OnOk, slice_set};
-ghost use Rattle.audit.specs.Law.{Upheld};
+ghost use Rattle.std.specs.Prelude.{◌≡◌, ◌-◌, ◌≤◌, true, [], ◌∷◌, Some, None, Ok, Err, IfOk, OnOk, slice_set};
 ghost use Rattle.audit.specs.Questions.{allowed, first_no, outcome, row_allowed};
 ghost use Rattle.sheet.specs.Questions.{id_in_range, id_is_seated, row_known, row_of, site_is_known};
 ghost use Rattle.sheet.specs.Law.{Lawful};
@@ -20,7 +19,7 @@ impl<R: Ruler> Sheet<R> {
         ensures after { ledger_of self.new.net ≡ fed (R.meaning self.old.ruler) (ledger_of self.old.net) (Seat id site current) }
         ensures plan { self.new.net.plan ≡ unless (asked (R.meaning self.old.ruler) (ledger_of self.old.net) (Seat id site current)) self.old.net.plan None }
         ensures same { self.new.ruler ≡ self.old.ruler }
-        ensures law { Lawful (R.meaning self.old.ruler) self.old.net → Lawful (R.meaning self.new.ruler) self.new.net }
+        ensures law { Lawful (R.meaning self.new.ruler) self.new.net }
     {
         self.seat_question(id, site, current)?;
         self.enter(id, Some(Terminal { site, current }));
@@ -32,7 +31,7 @@ impl<R: Ruler> Sheet<R> {
         ensures after { ledger_of self.new.net ≡ fed (R.meaning self.old.ruler) (ledger_of self.old.net) (Move id site) }
         ensures plan { self.new.net.plan ≡ unless (asked (R.meaning self.old.ruler) (ledger_of self.old.net) (Move id site)) self.old.net.plan None }
         ensures same { self.new.ruler ≡ self.old.ruler }
-        ensures law { Lawful (R.meaning self.old.ruler) self.old.net → Lawful (R.meaning self.new.ruler) self.new.net }
+        ensures law { Lawful (R.meaning self.new.ruler) self.new.net }
     {
         let pin = self.seated(id)?;
         self.site_question(id, site)?;
@@ -45,7 +44,7 @@ impl<R: Ruler> Sheet<R> {
         ensures after { ledger_of self.new.net ≡ fed (R.meaning self.old.ruler) (ledger_of self.old.net) (Alter id current) }
         ensures plan { self.new.net.plan ≡ unless (asked (R.meaning self.old.ruler) (ledger_of self.old.net) (Alter id current)) self.old.net.plan None }
         ensures same { self.new.ruler ≡ self.old.ruler }
-        ensures law { Lawful (R.meaning self.old.ruler) self.old.net → Lawful (R.meaning self.new.ruler) self.new.net }
+        ensures law { Lawful (R.meaning self.new.ruler) self.new.net }
     {
         let pin = self.seated(id)?;
         if !is_allowed(i64::from(current)) {
@@ -60,7 +59,7 @@ impl<R: Ruler> Sheet<R> {
         ensures after { ledger_of self.new.net ≡ fed (R.meaning self.old.ruler) (ledger_of self.old.net) (Lift id) }
         ensures plan { self.new.net.plan ≡ unless (asked (R.meaning self.old.ruler) (ledger_of self.old.net) (Lift id)) self.old.net.plan None }
         ensures same { self.new.ruler ≡ self.old.ruler }
-        ensures law { Lawful (R.meaning self.old.ruler) self.old.net → Lawful (R.meaning self.new.ruler) self.new.net }
+        ensures law { Lawful (R.meaning self.new.ruler) self.new.net }
     {
         let _ = self.seated(id)?;
         self.enter(id, None);
@@ -69,14 +68,15 @@ impl<R: Ruler> Sheet<R> {
 
     // Changes one row and no other; the plan is gone.
     fn enter(&mut self, id: u32, row: Option<Terminal>)
-        requires { (1 ≤ id) × ((id ≤ 64) × (row_allowed row ≡ true)) }
+        requires id { (1 ≤ id) × (id ≤ 64) }
+        requires allowed { row_allowed row ≡ true }
+        requires known { row_known (R.meaning self.old.ruler) row ≡ true }
         ensures after { self.new.net.table.rows ≡ slice_set self.old.net.table.rows (id - 1) row }
         ensures plan { self.new.net.plan ≡ None }
         ensures same { self.new.ruler ≡ self.old.ruler }
-        ensures law { row_known (R.meaning self.old.ruler) row ≡ true → Upheld (R.meaning self.old.ruler) self.old.net.table.rows → Lawful (R.meaning self.new.ruler) self.new.net }
     {
-        self.net.table.rows[id as usize - 1] = row;
         self.reopen();
+        self.net.table.rows[id as usize - 1] = row;
     }
 
     // The sheet is open: its wires and marks are gone.
@@ -125,7 +125,7 @@ impl<R: Ruler> Sheet<R> {
     // The terminal of an id, or the first no of the two questions that ask for one.
     pub(super) fn seated(&self, id: u32) -> Result<Terminal, Refusal>
         ensures found { elim result [ Ok t ↦ (1 ≤ id) × (id ≤ 64) × (row_of self.now.net.table.rows id ≡ Some t) | Err e ↦ Some e ≡ first_no (id_in_range id ∷ id_is_seated self.now.net.table.rows id ∷ []) ] }
-        ensures known { elim result [ Ok t ↦ (Upheld (R.meaning self.now.ruler) self.now.net.table.rows → (R.meaning self.now.ruler).known t.site ≡ true) | Err e ↦ Unit {0} ] }
+        ensures known { IfOk result (λ t. (R.meaning self.now.ruler).known t.site ≡ true) }
     {
         let Some(terminal) = self.row(id)? else {
             return Err(Refusal::IdFree { id });

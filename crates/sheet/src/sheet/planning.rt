@@ -21,7 +21,7 @@ impl<R: Ruler> Sheet<R> {
         ensures refused { (no' : Why) → asked (R.meaning self.old.ruler) (ledger_of self.old.net) Plan ≡ Some no' → self.new.net ≡ self.old.net }
         ensures again { is_some self.old.net.plan ≡ true → self.new.net ≡ self.old.net }
         ensures same { self.new.ruler ≡ self.old.ruler }
-        ensures law { Lawful (R.meaning self.old.ruler) self.old.net → Lawful (R.meaning self.new.ruler) self.new.net }
+        ensures law { Lawful (R.meaning self.new.ruler) self.new.net }
     {
         if balance_of(&self.net.table.rows) != 0 {
             return Err(Refusal::Unbalanced);

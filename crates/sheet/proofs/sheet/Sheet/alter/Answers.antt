@@ -1,10 +1,11 @@
-use Rattle.std.proofs.Common.{[], ◌∷◌, rules}
-use Rattle.sheet.specs.Questions.{id_in_range, id_is_seated, current_is_allowed}
-use Rattle.sheet.proofs.Chains.{first_no_stays}
+use Rattle.sheet.proofs.Lawfulness.{lawful}
 use Rattle.sheet.proofs.sheet.Sheet.alter.Goals as goal
 
-pub returns-in_err-pin : goal.returns-in_err-pin
-returns-in_err-pin g c =
-    let id = c.args.id in
-    let stays = first_no_stays (id_in_range id ∷ id_is_seated c.args.self.now.net.table.rows id ∷ []) (current_is_allowed id c.args.current ∷ []) _ c.in_err-pin.ensures.found in
-    search rules
+pub returns-in_err-pin-clause-law : goal.returns-in_err-pin-clause-law
+returns-in_err-pin-clause-law g c = let s = c.args.self.now in lawful _ (g.met.R.Ruler.metric s.ruler) s.net s.upheld s.planned
+
+pub returns-then-not-is_allowed-clause-law : goal.returns-then-not-is_allowed-clause-law
+returns-then-not-is_allowed-clause-law g c = let s = c.args.self.now in lawful _ (g.met.R.Ruler.metric s.ruler) s.net s.upheld s.planned
+
+pub returns-clause-law : goal.returns-clause-law
+returns-clause-law g c = let s = c.enter.new.self in lawful _ (g.met.R.Ruler.metric s.ruler) s.net s.upheld s.planned

@@ -29,5 +29,11 @@ returns-then-is_none g c =
       refused = λ no' e. absurd (some_is_not_none no' (sym e ∙ ap (λ q. first_no (q ∷ [])) passed));
       again = λ t. absurd (both_ways (is_some sheet.net.plan) c.if-is_none.ensures t);
       same = search rules;
-      law = λ before. lawful m (g.met.R.Ruler.metric sheet.ruler) _ before.upheld (c.plan_of-self.ensures.planned before.upheld);
+      law = lawful m (g.met.R.Ruler.metric sheet.ruler) _ sheet.upheld (c.plan_of-self.ensures.planned sheet.upheld);
     }
+
+pub returns-then-balance_of-ne0-clause-law : goal.returns-then-balance_of-ne0-clause-law
+returns-then-balance_of-ne0-clause-law g c = let s = c.args.self.now in lawful _ (g.met.R.Ruler.metric s.ruler) s.net s.upheld s.planned
+
+pub returns-else-is_none-clause-law : goal.returns-else-is_none-clause-law
+returns-else-is_none-clause-law g c = let s = c.args.self.now in lawful _ (g.met.R.Ruler.metric s.ruler) s.net s.upheld s.planned

@@ -9,4 +9,4 @@ returns g c =
     let sheet = c.args.self.now in
     let m = g.R.Ruler.meaning sheet.ruler in
     let row = answer_from _ _ _ c.in_ok-terminal.ensures in
-    record { found = search rules; known = λ up. ap (row_known m) (sym c.in-Some.is ∙ row) ∙ kept_row m sheet.net.table.rows (c.args.id - 1) up.known }
+    record { found = search rules; known = ap (row_known m) (sym c.in-Some.is ∙ row) ∙ kept_row m sheet.net.table.rows (c.args.id - 1) sheet.upheld.known }
