@@ -8,9 +8,8 @@ use transport::solve;
 // Amounts 1, 2, 4 and on, 20 of them, or those in descending order.
 fn doubling(falling: bool) -> [u32; 64] {
     let mut amounts = [0; 64];
-    for k in 0..20usize {
-        let place = if falling { 19 - k } else { k };
-        amounts[place] = 1 << k;
+    for (k, amount) in amounts[..20].iter_mut().enumerate() {
+        *amount = if falling { 1 << (19 - k) } else { 1 << k };
     }
     amounts
 }
@@ -18,9 +17,7 @@ fn doubling(falling: bool) -> [u32; 64] {
 // 20 amounts that are as equal as can be, with the sum of the doubling ones.
 fn level() -> [u32; 64] {
     let mut amounts = [0; 64];
-    for k in 0..20usize {
-        amounts[k] = 52_428;
-    }
+    amounts[..20].fill(52_428);
     amounts[0] = 52_443;
     amounts
 }
@@ -81,8 +78,8 @@ fn case_of(count: usize, supply: [u32; 64], demand: [u32; 64], costs: Costs) -> 
 fn solved(case: &Case) -> Result<(u128, u32), Fail> {
     let plan = solve(case).ok_or("absent")?;
     let mut cost: u128 = 0;
-    for i in 0..4096usize {
-        cost = cost.saturating_add(u128::from(plan.flow[i]) * u128::from(case.cost[i]));
+    for (flow, fee) in plan.flow.iter().zip(&case.cost) {
+        cost = cost.saturating_add(u128::from(*flow) * u128::from(*fee));
     }
     Ok((cost, plan.phases))
 }

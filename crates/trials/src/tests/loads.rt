@@ -1,5 +1,5 @@
 // What a load makes of a map and of a sheet, and what a refused one leaves of them.
-use crate::tests::{audited, edited, loaded, mark_at, marked, wire, wire_at};
+use crate::tests::{marked, read, told, wire};
 use dimacs::load::{load_map, load_sheet};
 use ruler::map::Map;
 use ruler::plane::Plane;
@@ -26,7 +26,7 @@ fn worked_sheet() -> Sheet<Map> {
 #[test]
 fn a_map_has_the_shortest_lengths(rt: HostRuntime) {
     let mut map = Map::empty();
-    assert_eq!(rt; loaded(load_map(&mut map, WORKED)), (0, 0, 0, 0));
+    assert_eq!(rt; read(load_map(&mut map, WORKED)), Ok(()));
     assert_eq!(rt; map.length(1, 3), Some(2));
     assert_eq!(rt; map.length(2, 3), Some(1));
     assert_eq!(rt; map.length(3, 4), Some(2));
@@ -43,7 +43,7 @@ fn a_map_has_the_shortest_lengths(rt: HostRuntime) {
 fn arcs_may_repeat_and_be_0_long(rt: HostRuntime) {
     let file = b"p min 3 5\na 1 2 0 0 9\na 1 2 0 0 4\na 1 2 0 0 6\na 2 2 0 0 7\na 2 3 0 0 0\n";
     let mut map = Map::empty();
-    assert_eq!(rt; loaded(load_map(&mut map, file)), (0, 0, 0, 0));
+    assert_eq!(rt; read(load_map(&mut map, file)), Ok(()));
     assert_eq!(rt; map.length(1, 2), Some(4));
     assert_eq!(rt; map.length(2, 2), Some(0));
     assert_eq!(rt; map.length(1, 3), Some(4));
@@ -54,8 +54,8 @@ fn arcs_may_repeat_and_be_0_long(rt: HostRuntime) {
 fn a_load_replaces_the_map(rt: HostRuntime) {
     let mut map = worked_map();
     assert_eq!(rt;
-        loaded(load_map(&mut map, b"p min 3 1\na 3 1 0 0 7\n")),
-        (0, 0, 0, 0)
+        read(load_map(&mut map, b"p min 3 1\na 3 1 0 0 7\n")),
+        Ok(())
     );
     assert_eq!(rt; map.length(3, 1), Some(7));
     assert_eq!(rt; map.length(1, 3), Some(4_000_000));
@@ -66,9 +66,9 @@ fn a_load_replaces_the_map(rt: HostRuntime) {
 fn a_refused_load_leaves_the_map(rt: HostRuntime) {
     let mut map = worked_map();
     let late = b"p min 9 1\na 1 3 0 0 1\nx\n";
-    assert_eq!(rt; loaded(load_map(&mut map, late)), (24, 3, 1, 0));
+    assert_eq!(rt; read(load_map(&mut map, late)), Err((24, 3, 1, 0)));
     let incomplete = b"p min 9 2\na 1 3 0 0 1\n";
-    assert_eq!(rt; loaded(load_map(&mut map, incomplete)), (30, 3, 0, 0));
+    assert_eq!(rt; read(load_map(&mut map, incomplete)), Err((30, 3, 0, 0)));
     assert_eq!(rt; map.length(1, 3), Some(2));
     assert_eq!(rt; map.length(1, 4), Some(4));
     assert_eq!(rt; map.length(4, 1), Some(4_000_000));
@@ -78,56 +78,56 @@ fn a_refused_load_leaves_the_map(rt: HostRuntime) {
 #[test]
 fn the_worked_sheet_plans_with_area_9(rt: HostRuntime) {
     let mut sheet = Sheet::open(worked_map());
-    assert_eq!(rt; loaded(load_sheet(&mut sheet, WORKED)), (0, 0, 0, 0));
-    assert_eq!(rt; edited(sheet.plan()), (0, 0));
-    assert_eq!(rt; audited(sheet.area()), (0, 9));
-    assert_eq!(rt; wire_at(&sheet, 0), (1, 3, 3));
-    assert_eq!(rt; wire_at(&sheet, 1), (2, 3, 1));
-    assert_eq!(rt; wire_at(&sheet, 2), (2, 4, 1));
-    assert_eq!(rt; wire_at(&sheet, 3), (0, 0, 0));
-    assert_eq!(rt; mark_at(&sheet, 5), (3, 5));
+    assert_eq!(rt; read(load_sheet(&mut sheet, WORKED)), Ok(()));
+    assert_eq!(rt; told(sheet.plan()), Ok(()));
+    assert_eq!(rt; told(sheet.area()), Ok(9));
+    assert_eq!(rt; told(sheet.wire(0)), Ok(Some((1, 3, 3))));
+    assert_eq!(rt; told(sheet.wire(1)), Ok(Some((2, 3, 1))));
+    assert_eq!(rt; told(sheet.wire(2)), Ok(Some((2, 4, 1))));
+    assert_eq!(rt; told(sheet.wire(3)), Ok(None));
+    assert_eq!(rt; told(sheet.mark(5)), Err((3, 5)));
 }
 
 #[test]
 fn the_worked_wires_pass_the_audit(rt: HostRuntime) {
     let sheet = worked_sheet();
     let list = [wire(1, 3, 3), wire(2, 3, 1), wire(2, 4, 1)];
-    assert_eq!(rt; audited(sheet.audit(&list, &marked([0, 1, 2, 3]))), (0, 9));
+    assert_eq!(rt; told(sheet.audit(&list, &marked([0, 1, 2, 3]))), Ok(9));
 }
 
 #[test]
 fn a_sheet_with_terminals_takes_no_load(rt: HostRuntime) {
     let mut sheet = worked_sheet();
-    assert_eq!(rt; edited(sheet.plan()), (0, 0));
-    assert_eq!(rt; loaded(load_sheet(&mut sheet, WORKED)), (22, 0, 0, 0));
-    assert_eq!(rt; loaded(load_sheet(&mut sheet, b"")), (22, 0, 0, 0));
-    assert_eq!(rt; audited(sheet.area()), (0, 9));
-    assert_eq!(rt; wire_at(&sheet, 0), (1, 3, 3));
+    assert_eq!(rt; told(sheet.plan()), Ok(()));
+    assert_eq!(rt; read(load_sheet(&mut sheet, WORKED)), Err((22, 0, 0, 0)));
+    assert_eq!(rt; read(load_sheet(&mut sheet, b"")), Err((22, 0, 0, 0)));
+    assert_eq!(rt; told(sheet.area()), Ok(9));
+    assert_eq!(rt; told(sheet.wire(0)), Ok(Some((1, 3, 3))));
 }
 
 // After the last terminal is lifted the sheet takes a load again.
 #[test]
 fn a_lifted_sheet_takes_a_load(rt: HostRuntime) {
     let mut sheet = Sheet::open(worked_map());
-    assert_eq!(rt; edited(sheet.seat(2, 4, 1)), (0, 0));
-    assert_eq!(rt; loaded(load_sheet(&mut sheet, WORKED)), (22, 0, 0, 0));
-    assert_eq!(rt; edited(sheet.lift(2)), (0, 0));
-    assert_eq!(rt; loaded(load_sheet(&mut sheet, WORKED)), (0, 0, 0, 0));
-    assert_eq!(rt; edited(sheet.plan()), (0, 0));
-    assert_eq!(rt; audited(sheet.area()), (0, 9));
+    assert_eq!(rt; told(sheet.seat(2, 4, 1)), Ok(()));
+    assert_eq!(rt; read(load_sheet(&mut sheet, WORKED)), Err((22, 0, 0, 0)));
+    assert_eq!(rt; told(sheet.lift(2)), Ok(()));
+    assert_eq!(rt; read(load_sheet(&mut sheet, WORKED)), Ok(()));
+    assert_eq!(rt; told(sheet.plan()), Ok(()));
+    assert_eq!(rt; told(sheet.area()), Ok(9));
 }
 
 // A plan without terminals stands until a load fills the sheet.
 #[test]
 fn a_refused_load_leaves_the_sheet(rt: HostRuntime) {
     let mut sheet = Sheet::open(worked_map());
-    assert_eq!(rt; edited(sheet.plan()), (0, 0));
+    assert_eq!(rt; told(sheet.plan()), Ok(()));
     let late = b"p min 4 0\nn 1 1\nn 2 -1\nx\n";
-    assert_eq!(rt; loaded(load_sheet(&mut sheet, late)), (24, 4, 1, 0));
-    assert_eq!(rt; audited(sheet.area()), (0, 0));
-    assert_eq!(rt; mark_at(&sheet, 1), (3, 1));
-    assert_eq!(rt; loaded(load_sheet(&mut sheet, WORKED)), (0, 0, 0, 0));
-    assert_eq!(rt; audited(sheet.area()), (7, 0));
+    assert_eq!(rt; read(load_sheet(&mut sheet, late)), Err((24, 4, 1, 0)));
+    assert_eq!(rt; told(sheet.area()), Ok(0));
+    assert_eq!(rt; told(sheet.mark(1)), Err((3, 1)));
+    assert_eq!(rt; read(load_sheet(&mut sheet, WORKED)), Ok(()));
+    assert_eq!(rt; told(sheet.area()), Err((7, 0)));
 }
 
 // A map of 2 sites does not know the third, which the file may still name.
@@ -137,14 +137,14 @@ fn every_node_stands_on_a_known_site(rt: HostRuntime) -> Result<(), Fail> {
     map.begin(2, 50)?;
     let mut sheet = Sheet::open(map);
     let third = b"p min 3 0\nn 2 1\nn 3 -1\nx\n";
-    assert_eq!(rt; loaded(load_sheet(&mut sheet, third)), (5, 3, 0, 3));
+    assert_eq!(rt; read(load_sheet(&mut sheet, third)), Err((5, 3, 0, 3)));
     let zero = b"p min 3 0\nn 3 0\n";
-    assert_eq!(rt; loaded(load_sheet(&mut sheet, zero)), (4, 2, 0, 3));
-    assert_eq!(rt; mark_at(&sheet, 2), (3, 2));
+    assert_eq!(rt; read(load_sheet(&mut sheet, zero)), Err((4, 2, 0, 3)));
+    assert_eq!(rt; told(sheet.mark(2)), Err((3, 2)));
     let arcs = b"p min 3 1\nn 2 1\na 1 3 0 1 5\n";
-    assert_eq!(rt; loaded(load_sheet(&mut sheet, arcs)), (0, 0, 0, 0));
+    assert_eq!(rt; read(load_sheet(&mut sheet, arcs)), Ok(()));
     let mut nowhere = Sheet::open(Map::empty());
-    assert_eq!(rt; loaded(load_sheet(&mut nowhere, arcs)), (5, 2, 0, 2));
+    assert_eq!(rt; read(load_sheet(&mut nowhere, arcs)), Err((5, 2, 0, 2)));
     Ok(())
 }
 
@@ -153,9 +153,9 @@ fn every_node_stands_on_a_known_site(rt: HostRuntime) -> Result<(), Fail> {
 fn a_sheet_over_the_plane_takes_its_lengths(rt: HostRuntime) {
     let mut sheet = Sheet::open(Plane);
     let file = b"p min 4 1\nn 1 2\nn 4 -2\na 1 4 0 2 100\n";
-    assert_eq!(rt; loaded(load_sheet(&mut sheet, file)), (0, 0, 0, 0));
-    assert_eq!(rt; edited(sheet.plan()), (0, 0));
-    assert_eq!(rt; audited(sheet.area()), (0, 6));
+    assert_eq!(rt; read(load_sheet(&mut sheet, file)), Ok(()));
+    assert_eq!(rt; told(sheet.plan()), Ok(()));
+    assert_eq!(rt; told(sheet.area()), Ok(6));
 }
 
 // Flows that do not sum to 0 are loaded, and refused by the plan.
@@ -163,8 +163,8 @@ fn a_sheet_over_the_plane_takes_its_lengths(rt: HostRuntime) {
 fn an_unbalanced_file_is_loaded(rt: HostRuntime) {
     let mut sheet = Sheet::open(worked_map());
     assert_eq!(rt;
-        loaded(load_sheet(&mut sheet, b"p min 4 0\nn 1 3\nn 3 -4\n")),
-        (0, 0, 0, 0)
+        read(load_sheet(&mut sheet, b"p min 4 0\nn 1 3\nn 3 -4\n")),
+        Ok(())
     );
-    assert_eq!(rt; edited(sheet.plan()), (6, 0));
+    assert_eq!(rt; told(sheet.plan()), Err((6, 0)));
 }
