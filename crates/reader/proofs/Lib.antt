@@ -1,4 +1,3 @@
 mod Parsing
-mod Spelling
 mod Splitting
 pub mod Wording

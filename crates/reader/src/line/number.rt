@@ -13,12 +13,11 @@ fn value_of(text: &[u8]) -> Option<u64>
     ensures bound { Short result }
 {
     let mut n = 0u64;
-    for i in 0..text.len() {
-        let digit = text[i];
+    for digit in text {
         if !digit.is_ascii_digit() {
             return None;
         }
-        n = n * 10 + u64::from(digit - b'0');
+        n = n * 10 + u64::from(*digit - b'0');
     }
     Some(n)
 }
@@ -36,14 +35,8 @@ fn number(text: &[u8]) -> Option<u64>
 fn flow(text: &[u8]) -> Option<i64>
     ensures { result ≡ flow_of text.now }
 {
-    if text.is_empty() {
-        return None;
-    }
-    if text[0] == b'-' {
-        let n = number(&text[1..])?;
-        Some(-(n as i64))
-    } else {
-        let n = number(text)?;
-        Some(n as i64)
+    match text {
+        [b'-', digits @ ..] => number(digits).map(|n| -(n as i64)),
+        _ => number(text).map(|n| n as i64),
     }
 }

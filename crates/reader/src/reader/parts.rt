@@ -10,22 +10,18 @@ fn split(text: &[u8], stop: u8) -> (&[u8], &[u8])
     ensures bound { length result.0.now + length result.1.now ≤ length text.now }
     ensures falls { 0 < length text.now → length result.1.now < length text.now }
 {
-    for i in 0..text.len() {
-        if text[i] == stop {
-            return (&text[0..i], &text[i + 1..]);
-        }
+    match text.iter().position(|byte| *byte == stop) {
+        Some(end) => (&text[..end], &text[end + 1..]),
+        None => (text, &[]),
     }
-    (text, &[])
 }
 
 fn trim(text: &[u8]) -> &[u8]
     ensures value { result.now ≡ unspaced text.now }
     ensures bound { length result.now ≤ length text.now }
 {
-    for i in 0..text.len() {
-        if text[i] != b' ' {
-            return &text[i..];
-        }
+    match text.iter().position(|byte| *byte != b' ') {
+        Some(start) => &text[start..],
+        None => &[],
     }
-    &[]
 }

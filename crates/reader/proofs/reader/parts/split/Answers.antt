@@ -1,31 +1,31 @@
-use Rattle.std.proofs.Common.{◌≡◌, ◌+◌, ◌-◌, take, ap, ◌∙◌, arith}
-use Rattle.std.proofs.lemmas.List.{take_rest, length-take, length-drop}
-use Rattle.reader.proofs.Splitting.{unstopped_none, unstopped_more, unstopped_before, unstopped_after, stopped_before, stopped_after}
+use Rattle.std.proofs.Common.{◌≡◌, eqb, arith, rules, tests}
+use Rattle.std.specs.List.{position}
+use Rattle.std.proofs.lemmas.Grind.{common_steps}
+use Rattle.std.proofs.lemmas.Iterator.Search.{position_from_yields_List}
+use Rattle.std.proofs.lemmas.Iterator.{YieldsList-from_slice}
+use Rattle.reader.proofs.Splitting.{past_first, upto_first}
 use Rattle.reader.proofs.reader.parts.split.Goals as goal
 
-pub loop-i-init : goal.loop-i-init
-loop-i-init c = unstopped_none c.args.stop c.args.text.now
-
-pub loop-i-preserved : goal.loop-i-preserved
-loop-i-preserved c = unstopped_more c.args.stop c.loop-i.i c.args.text.now c.loop-i.invariant c.loop-i-test.true c.if-text-i.false
-
-pub returns-then-text-i : goal.returns-then-text-i
-returns-then-text-i c =
+pub returns-in-Some : goal.returns-in-Some
+returns-in-Some c =
     let s = c.args.text.now in
-    let i = c.loop-i.i in
-    let start : i - 0 ≡ i = omega arith in
+    let stop = c.args.stop in
+    let found : c.position.result ≡ position (λ b. eqb b stop) s = position_from_yields_List (λ b. eqb b stop) _ _ c.position.result c.position.ensures.ran (YieldsList-from_slice s cc) (λ x b q k. search (rules, tests)) in
     record {
-      before = ap (λ n. take n s) start ∙ stopped_before c.args.stop i s c.loop-i.invariant c.loop-i-test.true c.if-text-i.true;
-      after = take_rest s (i + 1) ∙ stopped_after c.args.stop i s c.loop-i.invariant c.loop-i-test.true c.if-text-i.true;
-      bound = simp (length-take, length-drop) (omega arith);
-      falls = λ some. simp (length-take, length-drop) (omega arith);
+      before = grind (arith, common_steps, upto_first stop s);
+      after = grind (arith, common_steps, past_first stop s);
+      bound = grind (arith, common_steps);
+      falls = grind (arith, common_steps);
     }
 
-pub returns : goal.returns
-returns c =
+pub returns-in-None : goal.returns-in-None
+returns-in-None c =
+    let s = c.args.text.now in
+    let stop = c.args.stop in
+    let found : c.position.result ≡ position (λ b. eqb b stop) s = position_from_yields_List (λ b. eqb b stop) _ _ c.position.result c.position.ensures.ran (YieldsList-from_slice s cc) (λ x b q k. search (rules, tests)) in
     record {
-      before = unstopped_before c.args.stop c.loop-i.i c.args.text.now c.loop-i.invariant c.loop-i-test.false;
-      after = unstopped_after c.args.stop c.loop-i.i c.args.text.now c.loop-i.invariant c.loop-i-test.false;
-      bound = omega arith;
-      falls = λ some. some;
+      before = grind (arith, common_steps, upto_first stop s);
+      after = grind (arith, common_steps, past_first stop s);
+      bound = grind (arith, common_steps);
+      falls = grind (arith, common_steps);
     }

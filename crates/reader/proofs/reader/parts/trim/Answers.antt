@@ -1,24 +1,19 @@
-use Rattle.std.proofs.Common.{refl, ◌∙◌, arith}
-use Rattle.std.proofs.lemmas.List.{take_rest, length-take, length-drop}
-use Rattle.reader.proofs.Splitting.{unspaced_all, unspaced_here, unspaced_more}
+use Rattle.std.proofs.Common.{◌≡◌, eqb, not, arith, rules, tests}
+use Rattle.std.specs.List.{position}
+use Rattle.std.proofs.lemmas.Grind.{common_steps}
+use Rattle.std.proofs.lemmas.Iterator.Search.{position_from_yields_List}
+use Rattle.std.proofs.lemmas.Iterator.{YieldsList-from_slice}
+use Rattle.reader.proofs.Splitting.{unspaced_first}
 use Rattle.reader.proofs.reader.parts.trim.Goals as goal
 
-pub loop-i-init : goal.loop-i-init
-loop-i-init c = refl
+pub returns-in-Some-clause-value : goal.returns-in-Some-clause-value
+returns-in-Some-clause-value c =
+    let s = c.args.text.now in
+    let found : c.position.result ≡ position (λ b. not (eqb b 32)) s = position_from_yields_List (λ b. not (eqb b 32)) _ _ c.position.result c.position.ensures.ran (YieldsList-from_slice s cc) (λ x b q k. search (rules, tests)) in
+    grind (arith, common_steps, unspaced_first s)
 
-pub loop-i-preserved : goal.loop-i-preserved
-loop-i-preserved c = unspaced_more c.args.text.now c.loop-i.i c.loop-i-test.true c.loop-i.invariant c.if-text-i-ne32.false
-
-pub returns-then-text-i-ne32 : goal.returns-then-text-i-ne32
-returns-then-text-i-ne32 c =
-    record {
-      value = take_rest c.args.text.now c.loop-i.i ∙ unspaced_here c.args.text.now c.loop-i.i c.loop-i-test.true c.loop-i.invariant c.if-text-i-ne32.true;
-      bound = simp (length-take, length-drop) (omega arith);
-    }
-
-pub returns : goal.returns
-returns c =
-    record {
-      value = unspaced_all c.args.text.now c.loop-i.i c.loop-i.invariant c.loop-i-test.false;
-      bound = omega arith;
-    }
+pub returns-in-None-clause-value : goal.returns-in-None-clause-value
+returns-in-None-clause-value c =
+    let s = c.args.text.now in
+    let found : c.position.result ≡ position (λ b. not (eqb b 32)) s = position_from_yields_List (λ b. not (eqb b 32)) _ _ c.position.result c.position.ensures.ran (YieldsList-from_slice s cc) (λ x b q k. search (rules, tests)) in
+    grind (arith, common_steps, unspaced_first s)
