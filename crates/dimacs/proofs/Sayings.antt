@@ -1,12 +1,14 @@
 -- What a line says by its words, against the layout's words for it.
-use Rattle.std.proofs.Common.{◌≡◌, ℕ, zero, suc, Bool, true, false, cond, eqb, List, [], ◌∷◌, length, get_or, Some, None, Ok, Err, Option, Result, sym, refl, ap, ◌∙◌, subst, arith}
-use Rattle.std.proofs.lemmas.Bool.{and_parts, cond-false, eqb-true, ne_eqb}
+use Rattle.std.proofs.Common.{◌≡◌, ℕ, zero, suc, Bool, true, false, cond, eqb, List, [], ◌∷◌, codes, length, get_or, Some, None, Ok, Err, Option, Result, sym, refl, ap, ◌∙◌, subst, arith}
+use Rattle.std.specs.Str.{bytes_eq}
+use Rattle.std.proofs.lemmas.Bool.{eqb-true}
+use Rattle.std.proofs.lemmas.Slice.Eq.{bytes_eq-Decides}
 use Rattle.reader.specs.declared.line.Line.{Line}
 use Rattle.reader.specs.declared.line.Line.TheVariants.{Blank, Comment, Problem, Node, Arc}
 use Rattle.reader.specs.declared.refusal.Fault.TheVariants.{LineKind, LineWords}
 use Rattle.reader.specs.declared.refusal.Refusal.{Refusal}
 use Rattle.dimacs.specs.Layout.{ArcLine, NodeLine, SaysArc, SaysNode, SaysProblem, Silent}
-use Rattle.reader.specs.Lines.{arc_said, counted, fifth, fourth, letter, node_said, problem_said, read, said, says_min, second, sixth, third}
+use Rattle.reader.specs.Lines.{arc_said, counted, fifth, fourth, node_said, problem_said, read, said, says_min, second, sixth, third}
 use Rattle.reader.specs.Numbers.{numeral, flow_of}
 use Rattle.reader.specs.Refusals.{refused}
 
@@ -29,23 +31,6 @@ module _ {A : Type 0} (d : A) where
   placed_all zero (x ∷ xs) e = absurd (omega arith)
   placed_all (suc n) [] e = absurd (omega arith)
   placed_all (suc n) (x ∷ xs) e = ap (λ l. x ∷ l) (placed_all n xs (omega arith) ∙ sym (placed_later 0 n x xs))
-
--- a word that is one letter
-letter_is : (w : List ℕ) (k : ℕ) → letter w ≡ suc k → w ≡ suc k ∷ []
-letter_is [] k e = absurd (omega arith)
-letter_is (b ∷ []) k e = ap (λ x. x ∷ []) e
-letter_is (b ∷ c ∷ w) k e = let long = cond-false (eqb (length (b ∷ c ∷ w)) 1) b 0 (ne_eqb (length (b ∷ c ∷ w)) 1 (λ l. omega arith)) in absurd (omega arith)
-
-min_is : (w : List ℕ) → says_min w ≡ true → w ≡ 109 ∷ 105 ∷ 110 ∷ []
-min_is w e =
-    let long = and_parts (eqb (length w) 3) _ e in
-    let m = and_parts (eqb (get_or w 0 0) 109) _ long.1 in
-    let i = and_parts (eqb (get_or w 1 0) 105) _ m.1 in
-    let all = placed_all 0 3 w (eqb-true (length w) 3 long.0) in
-    let b0 = eqb-true (get_or w 0 0) 109 m.0 in
-    let b1 = eqb-true (get_or w 1 0) 105 i.0 in
-    let b2 = eqb-true (get_or w 2 0) 110 i.1 in
-    cc
 
 -- what a line says, in the layout's words
 abbrev pub Says : List (List ℕ) → Line → Type 0
@@ -76,7 +61,7 @@ module _ (line : ℕ) (ws : List (List ℕ)) (l : Line) where
       let a = read_is line 4 (numeral (fourth ws)) _ l s.2 in
       let is : Problem (says_min (second ws)) s.0 a.0 ≡ l = cc in
       let all = placed_all [] 4 ws n.0 in
-      subst (Says ws) is (λ min. record { first = third ws; second = fourth ws; words = all ∙ ap (λ w. w ∷ second ws ∷ third ws ∷ fourth ws ∷ []) first ∙ ap (λ w. (112 ∷ []) ∷ w ∷ third ws ∷ fourth ws ∷ []) (min_is (second ws) min); says_sites = s.1; says_arcs = a.1 })
+      subst (Says ws) is (λ min. record { first = third ws; second = fourth ws; words = all ∙ ap (λ w. w ∷ second ws ∷ third ws ∷ fourth ws ∷ []) first ∙ ap (λ w. (112 ∷ []) ∷ w ∷ third ws ∷ fourth ws ∷ []) ((bytes_eq-Decides (second ws) (codes "min")).0 min); says_sites = s.1; says_arcs = a.1 })
 
   node_says : get_or ws 0 [] ≡ 110 ∷ [] → node_said line ws ≡ Ok l → Says ws l
   node_says first e =
@@ -114,13 +99,13 @@ module _ (line : ℕ) (ws : List (List ℕ)) (l : Line) where
 -- whatever is said was said in those words
 pub says : (line : ℕ) (ws : List (List ℕ)) (l : Line) → said line ws ≡ Ok l → Says ws l
 says line [] l e = let is : Blank ≡ l = cc in subst (Says []) is tt
-says line (w ∷ ws) l e = go (eqb (letter w) 99) (eqb (letter w) 112) (eqb (letter w) 110) (eqb (letter w) 97) refl refl refl refl e
+says line (w ∷ ws) l e = go (bytes_eq w (codes "c")) (bytes_eq w (codes "p")) (bytes_eq w (codes "n")) (bytes_eq w (codes "a")) ((bytes_eq-Decides w (codes "c")).0) ((bytes_eq-Decides w (codes "p")).0) ((bytes_eq-Decides w (codes "n")).0) ((bytes_eq-Decides w (codes "a")).0) e
   where
-    go : (c p n a : Bool) → eqb (letter w) 99 ≡ c → eqb (letter w) 112 ≡ p → eqb (letter w) 110 ≡ n → eqb (letter w) 97 ≡ a → cond c (Ok Comment) (cond p (problem_said line (w ∷ ws)) (cond n (node_said line (w ∷ ws)) (cond a (arc_said line (w ∷ ws)) (Err (refused LineKind line 1))))) ≡ Ok l → Says (w ∷ ws) l
-    go true p n a is_c is_p is_n is_a e = let is : Comment ≡ l = cc in subst (Says (w ∷ ws)) is (letter_is w 98 (eqb-true (letter w) 99 is_c))
-    go false true n a is_c is_p is_n is_a e = problem_says line (w ∷ ws) l (letter_is w 111 (eqb-true (letter w) 112 is_p)) e
-    go false false true a is_c is_p is_n is_a e = node_says line (w ∷ ws) l (letter_is w 109 (eqb-true (letter w) 110 is_n)) e
-    go false false false true is_c is_p is_n is_a e = arc_says line (w ∷ ws) l (letter_is w 96 (eqb-true (letter w) 97 is_a)) e
+    go : (c p n a : Bool) → (c ≡ true → w ≡ codes "c") → (p ≡ true → w ≡ codes "p") → (n ≡ true → w ≡ codes "n") → (a ≡ true → w ≡ codes "a") → cond c (Ok Comment) (cond p (problem_said line (w ∷ ws)) (cond n (node_said line (w ∷ ws)) (cond a (arc_said line (w ∷ ws)) (Err (refused LineKind line 1))))) ≡ Ok l → Says (w ∷ ws) l
+    go true p n a is_c is_p is_n is_a e = let is : Comment ≡ l = cc in subst (Says (w ∷ ws)) is (is_c refl)
+    go false true n a is_c is_p is_n is_a e = problem_says line (w ∷ ws) l (is_p refl) e
+    go false false true a is_c is_p is_n is_a e = node_says line (w ∷ ws) l (is_n refl) e
+    go false false false true is_c is_p is_n is_a e = arc_says line (w ∷ ws) l (is_a refl) e
     go false false false false is_c is_p is_n is_a e = absurd (never e)
 
 -- and those words say it

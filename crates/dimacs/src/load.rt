@@ -75,11 +75,7 @@ pub fn load_sheet<R: Ruler>(sheet: &mut Sheet<R>, file: &[u8]) -> Result<(), Ref
     ensures law { Lawful (R.meaning sheet.old.ruler) sheet.old.net → Lawful (R.meaning sheet.new.ruler) sheet.new.net }
 {
     if !sheet.is_bare() {
-        return Err(Refusal {
-            fault: Fault::SheetInUse,
-            line: 0,
-            word: 0,
-        });
+        return Err(Fault::SheetInUse.at(0, 0));
     }
     let draft = scan(file, sheet)?;
     seat_nodes(sheet, draft.nodes());

@@ -8,7 +8,7 @@ use Rattle.ruler.specs.declared.map.Map.{Map}
 use Rattle.wires.specs.Sums.{sum}
 use Rattle.wires.specs.Wiring as wiring
 use Rattle.audit.specs.Audit.{differ}
-use Rattle.audit.specs.Questions.{ask, first_no, outcome}
+use Rattle.audit.specs.Questions.{ask, first_no}
 use Rattle.audit.specs.declared.refusal.Refusal as why
 use Rattle.audit.specs.declared.refusal.Refusal.TheVariants.{Unbalanced}
 use Rattle.planner.specs.declared.plan.Plan as the_plan
@@ -53,26 +53,24 @@ plan_of None e go = absurd (clash e)
     clash : false ≡ true → ⊥
     clash e = let z : ◌≡◌ {A = ℕ} 0 1 = cc in omega arith
 
--- what plan was asked, by what it answered
-abbrev told : Option why.Refusal → Result (Unit {0}) why.Refusal
-told q = outcome q tt
+-- what a file is answered where plan was asked: its refusal names no line
+abbrev pub told : Option why.Refusal → Result (Unit {0}) file.Refusal
+told None = Ok tt
+told (Some r) = Err (refused (Terminal r) 0 0)
 
-abbrev done : Result (Unit {0}) why.Refusal
-done = Ok tt
-
-asked_none : (q : Option why.Refusal) → done ≡ told q → q ≡ None
+asked_none : (q : Option why.Refusal) → Ok tt ≡ told q → q ≡ None
 asked_none None e = refl
 asked_none (Some r) e = absurd (clash e)
   where
-    clash : done ≡ told (Some r) → ⊥
+    clash : Ok tt ≡ told (Some r) → ⊥
     clash e = let z : ◌≡◌ {A = ℕ} 0 1 = cc in omega arith
 
-asked_some : (q : Option why.Refusal) (r : why.Refusal) → Err r ≡ told q → q ≡ Some r
-asked_some None r e = absurd (clash e)
+asked_some : (q : Option why.Refusal) (e : file.Refusal) → Err e ≡ told q → (r : why.Refusal) × (q ≡ Some r) × (e ≡ refused (Terminal r) 0 0)
+asked_some None e is = absurd (clash is)
   where
-    clash : Err r ≡ told None → ⊥
-    clash e = let z : ◌≡◌ {A = ℕ} 0 1 = cc in omega arith
-asked_some (Some x) r e = let same : r ≡ x = cc in ap Some (sym same)
+    clash : Err e ≡ told None → ⊥
+    clash is = let z : ◌≡◌ {A = ℕ} 0 1 = cc in omega arith
+asked_some (Some r) e is = let same : e ≡ refused (Terminal r) 0 0 = cc in (r, refl, same)
 
 -- plan is refused by one question alone
 one_no : (b : Bool) (r : why.Refusal) → first_no (ask b Unbalanced ∷ []) ≡ Some r → (ask b Unbalanced ≡ Some Unbalanced) × (r ≡ Unbalanced)
@@ -105,7 +103,7 @@ module _ (bs : List ℕ) (map : Map) (before : Net) (opens : ledger_of before �
     seated =
         (loads.accepts is_bare doc (known_file bs map doc says draws)).1.ledger ∙ ap (λ l. course (mapped map) l (seats_of (nodes_of doc))) opens
 
-    pub plan_done : (last : Net) → done ≡ told (asked (mapped map) (ledger_of after) Plan) → ledger_of last ≡ fed (mapped map) (ledger_of after) Plan → Lawful (mapped map) last → Planned bs map last
+    pub plan_done : (last : Net) → Ok tt ≡ told (asked (mapped map) (ledger_of after) Plan) → ledger_of last ≡ fed (mapped map) (ledger_of after) Plan → Lawful (mapped map) last → Planned bs map last
     plan_done last answer ledger law =
         let none = asked_none (asked (mapped map) (ledger_of after) Plan) answer in
         let made = ledger ∙ ap (λ q. unless q (ledger_of after) (written (ledger_of after) Plan)) none in
@@ -120,9 +118,9 @@ module _ (bs : List ℕ) (map : Map) (before : Net) (opens : ledger_of before �
           planned = is;
         })
 
-    pub plan_refused : (r : why.Refusal) → Err r ≡ told (asked (mapped map) (ledger_of after) Plan) → Refused bs (refused (Terminal r) 0 0)
-    plan_refused r answer =
+    pub plan_refused : (e : file.Refusal) → Err e ≡ told (asked (mapped map) (ledger_of after) Plan) → Refused bs e
+    plan_refused e answer =
         let rows = (ledger_of after).rows in
-        let some = asked_some (asked (mapped map) (ledger_of after) Plan) r answer in
-        let one = one_no (not (differ (sum (λ t. t.current) (wiring.seated rows)) (pos 0))) r some in
-        inr (record { doc = doc; says = says; map = map; draws = draws; unbalanced = ap (λ l. currents_balance l.rows) (sym seated) ∙ one.0 }, ap (λ x. refused (Terminal x) 0 0) one.1)
+        let some = asked_some (asked (mapped map) (ledger_of after) Plan) e answer in
+        let one = one_no (not (differ (sum (λ t. t.current) (wiring.seated rows)) (pos 0))) some.0 some.1 in
+        inr (record { doc = doc; says = says; map = map; draws = draws; unbalanced = ap (λ l. currents_balance l.rows) (sym seated) ∙ one.0 }, some.2 ∙ ap (λ r. refused (Terminal r) 0 0) one.1)

@@ -15,12 +15,8 @@ pub fn plan_file(file: &[u8]) -> Result<Sheet<Map>, Refusal>
     load_map(&mut map, file)?;
     let mut sheet = Sheet::open(map);
     load_sheet(&mut sheet, file)?;
-    if let Err(refusal) = sheet.plan() {
-        return Err(Refusal {
-            fault: Fault::Terminal(refusal),
-            line: 0,
-            word: 0,
-        });
-    }
+    sheet
+        .plan()
+        .map_err(|refusal| Fault::from(refusal).at(0, 0))?;
     Ok(sheet)
 }

@@ -1,5 +1,6 @@
 -- What a line says, by its words.
-use Rattle.std.specs.Prelude.{ℕ, ◌+◌, Bool, cond, ◌&&◌, List, [], ◌∷◌, length, Some, None, Ok, Err, Option, Result, ◌==◌, slice_index, slice_index_or}
+use Rattle.std.specs.Prelude.{ℕ, ◌+◌, Bool, cond, List, [], ◌∷◌, length, Some, None, Ok, Err, Option, Result, codes, ◌==◌, slice_index_or}
+use Rattle.std.specs.Str.{bytes_eq}
 use Rattle.reader.specs.declared.line.Line.{Line}
 use Rattle.reader.specs.declared.line.Line.TheVariants.{Blank, Comment, Problem, Node, Arc}
 use Rattle.reader.specs.declared.refusal.Fault.TheVariants.{LineKind, LineWords}
@@ -39,7 +40,7 @@ counted line n ws said = cond (length ws == n) said (Err (refused LineWords line
 
 -- the word `min`
 abbrev pub says_min : List ℕ → Bool
-says_min w = length w == 3 && (slice_index w 0 == 109 && (slice_index w 1 == 105 && slice_index w 2 == 110))
+says_min w = bytes_eq w (codes "min")
 
 -- p min N ARCS
 abbrev pub problem_said : ℕ → List (List ℕ) → Result Line Refusal
@@ -56,15 +57,11 @@ abbrev pub arc_said : ℕ → List (List ℕ) → Result Line Refusal
 arc_said line ws =
     counted line 6 ws (read line 2 (numeral (second ws)) (λ from. read line 3 (numeral (third ws)) (λ to. read line 4 (numeral (fourth ws)) (λ low. read line 5 (numeral (fifth ws)) (λ cap. read line 6 (numeral (sixth ws)) (λ cost. Ok (Arc from to low cap cost)))))))
 
--- a word of one byte is that byte
-abbrev pub letter : List ℕ → ℕ
-letter w = cond (length w == 1) (slice_index w 0) 0
-
 -- what a line says by its first word: c, p, n or a; a line without words is skipped
 abbrev pub said : ℕ → List (List ℕ) → Result Line Refusal
 said line [] = Ok Blank
 said line (w ∷ ws) =
-    cond (letter w == 99) (Ok Comment) (cond (letter w == 112) (problem_said line (w ∷ ws)) (cond (letter w == 110) (node_said line (w ∷ ws)) (cond (letter w == 97) (arc_said line (w ∷ ws)) (Err (refused LineKind line 1)))))
+    cond (bytes_eq w (codes "c")) (Ok Comment) (cond (bytes_eq w (codes "p")) (problem_said line (w ∷ ws)) (cond (bytes_eq w (codes "n")) (node_said line (w ∷ ws)) (cond (bytes_eq w (codes "a")) (arc_said line (w ∷ ws)) (Err (refused LineKind line 1)))))
 
 -- what the line after line n says, absent at the end
 abbrev pub next_said : ℕ → List (List (List ℕ)) → Option (Result Line Refusal)

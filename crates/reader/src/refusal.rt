@@ -1,6 +1,7 @@
 // Why a file was refused, and where: its line, from 1, and the word at fault in it, or 0.
 ghost use Rattle.std.specs.Prelude.{◌≡◌};
-ghost use Rattle.reader.specs.Refusals.{number_of, place_of};
+ghost use Rattle.reader.specs.Refusals.{number_of, place_of, refused};
+ghost use Rattle.reader.specs.declared.refusal.Fault.TheVariants.{Leg, Terminal};
 
 #[derive(Clone, Copy, PartialEq, Eq, Debug)]
 pub enum Fault {
@@ -23,6 +24,35 @@ pub struct Refusal {
     pub fault: Fault,
     pub line: usize,
     pub word: usize,
+}
+
+impl Fault {
+    // The refusal for this fault, at a line and a word of it.
+    pub fn at(self, line: usize, word: usize) -> Refusal
+        ensures { result ≡ refused self line word }
+    {
+        Refusal {
+            fault: self,
+            line,
+            word,
+        }
+    }
+}
+
+impl From<audit::refusal::Refusal> for Fault {
+    ghost from_gives = { λ terminal fault. fault ≡ Terminal terminal };
+
+    fn from(terminal: audit::refusal::Refusal) -> Fault {
+        Fault::Terminal(terminal)
+    }
+}
+
+impl From<ruler::refusal::Refusal> for Fault {
+    ghost from_gives = { λ leg fault. fault ≡ Leg leg };
+
+    fn from(leg: ruler::refusal::Refusal) -> Fault {
+        Fault::Leg(leg)
+    }
 }
 
 impl Refusal {

@@ -1,7 +1,7 @@
 // The words of a line, taken one after another: a line that has not just its words is refused before any word is looked at.
 ghost use Rattle.std.specs.Prelude.{◌≡◌, ℕ, ◌+◌, ◌≤◌, List, [], ◌∷◌, length, is_some, if◌then◌else◌, Some, None, Ok};
 ghost use Rattle.std.specs.Option.{option_map};
-ghost use Rattle.reader.specs.Lines.{arc_said, letter, next_said, node_said, problem_said, read_word, said, says_min, tail};
+ghost use Rattle.reader.specs.Lines.{arc_said, next_said, node_said, problem_said, read_word, said, tail};
 ghost use Rattle.reader.specs.Numbers.{flow_of, numeral};
 ghost use Rattle.reader.specs.Reading.{lined, next_word, place_of, word_of, worded};
 ghost use Rattle.reader.specs.Refusals.{refused};
@@ -14,38 +14,17 @@ use crate::line::number::{flow, number};
 use crate::reader::{Reader, Word};
 use crate::refusal::{Fault, Refusal};
 
-// A word of one byte is that byte.
-fn letter(text: &[u8]) -> u8
-    ensures { result ≡ letter text.now }
-{
-    if text.len() == 1 { text[0] } else { 0 }
-}
-
-fn says_min(text: &[u8]) -> bool
-    ensures { result ≡ says_min text.now }
-{
-    text.len() == 3 && text[0] == b'm' && text[1] == b'i' && text[2] == b'n'
-}
-
 // A line has too few words or too many.
 fn miscounted(line: usize) -> Refusal
     ensures { result ≡ refused LineWords line 0 }
 {
-    Refusal {
-        fault: Fault::LineWords,
-        line,
-        word: 0,
-    }
+    Fault::LineWords.at(line, 0)
 }
 
 fn malformed(word: Word) -> Refusal
     ensures { result ≡ refused LineWords word.entry.line word.entry.number }
 {
-    Refusal {
-        fault: Fault::LineWords,
-        line: word.line,
-        word: word.number,
-    }
+    Fault::LineWords.at(word.line, word.number)
 }
 
 // The next word of a line, by the words that are left of it.
@@ -93,7 +72,7 @@ fn read_problem(reader: &mut Reader) -> Result<Line, Refusal>
         return Err(malformed(arcs));
     };
     Ok(Line::Problem {
-        is_min: says_min(kind.text),
+        is_min: kind.text == b"min".as_slice(),
         sites: site_count,
         arcs: arc_count,
     })
@@ -208,16 +187,12 @@ fn read_words(reader: &mut Reader) -> Result<Line, Refusal>
     let Some(kind) = take_word(reader) else {
         return Ok(Line::Blank);
     };
-    match letter(kind.text) {
-        b'c' => Ok(Line::Comment),
-        b'p' => read_problem(reader),
-        b'n' => read_node(reader),
-        b'a' => read_arc(reader),
-        _ => Err(Refusal {
-            fault: Fault::LineKind,
-            line: kind.line,
-            word: kind.number,
-        }),
+    match kind.text {
+        [b'c'] => Ok(Line::Comment),
+        [b'p'] => read_problem(reader),
+        [b'n'] => read_node(reader),
+        [b'a'] => read_arc(reader),
+        _ => Err(Fault::LineKind.at(kind.line, kind.number)),
     }
 }
 

@@ -3,25 +3,20 @@ ghost use Rattle.std.specs.Prelude.{◌≡◌, ◌+◌, ◌^◌, ◌<◌, ◌≤
 ghost use Rattle.audit.specs.Questions.{allowed};
 ghost use Rattle.dimacs.specs.Asking.{outcome};
 ghost use Rattle.dimacs.specs.Contents.{draft_of, left_by};
-ghost use Rattle.reader.specs.Refusals.{refused};
 ghost use Rattle.dimacs.specs.Scan.{arc_asked, entered, node_asked, nothing, on_site, problem_asked, sites_of, taken, with_arc, with_node, with_problem};
 
 use crate::document::{Arc, Node, Problem};
 use crate::draft::Draft;
 use crate::draft::nodes::Nodes;
 use crate::sites::Sites;
+use audit::refusal::Refusal as TerminalRefusal;
 use reader::line::Line;
 use reader::refusal::{Fault, Refusal};
+use ruler::refusal::Refusal as LegRefusal;
 
 mod scanning;
 
 pub use scanning::scan;
-
-fn refused(fault: Fault, line: usize, word: usize) -> Refusal
-    ensures { result ≡ refused fault line word }
-{
-    Refusal { fault, line, word }
-}
 
 fn is_allowed(flow: i64) -> bool
     ensures { result ≡ allowed flow }
@@ -91,16 +86,16 @@ impl Draft {
         ensures bounds { result ≡ None → (sites ≤ 64) × (arcs ≤ 2000) }
     {
         if self.problem.is_some() {
-            return Some(refused(Fault::LineOrder, line, 0));
+            return Some(Fault::LineOrder.at(line, 0));
         }
         if !is_min {
-            return Some(refused(Fault::ProblemLine, line, 2));
+            return Some(Fault::ProblemLine.at(line, 2));
         }
         if sites < 1 || 64 < sites {
-            return Some(refused(Fault::ProblemLine, line, 3));
+            return Some(Fault::ProblemLine.at(line, 3));
         }
         if 2000 < arcs {
-            return Some(refused(Fault::ProblemLine, line, 4));
+            return Some(Fault::ProblemLine.at(line, 4));
         }
         None
     }
@@ -110,23 +105,20 @@ impl Draft {
         ensures bounds { result ≡ None → (1 ≤ id) × (id ≤ 64) × (taken (draft_of self.now).nodes id ≡ false) × (allowed flow ≡ true) }
     {
         if self.problem.is_none() || self.lines != 0 {
-            return Some(refused(Fault::LineOrder, line, 0));
+            return Some(Fault::LineOrder.at(line, 0));
         }
         if !self.is_site(id) {
-            return Some(refused(Fault::SiteOutOfRange, line, 2));
+            return Some(Fault::SiteOutOfRange.at(line, 2));
         }
         let id = id as u32;
         if self.nodes.has(id) {
-            let taken = audit::refusal::Refusal::IdTaken { id };
-            return Some(refused(Fault::Terminal(taken), line, 0));
+            return Some(Fault::from(TerminalRefusal::IdTaken { id }).at(line, 0));
         }
         if !is_allowed(flow) {
-            let excess = audit::refusal::Refusal::CurrentOutOfRange { id };
-            return Some(refused(Fault::Terminal(excess), line, 0));
+            return Some(Fault::from(TerminalRefusal::CurrentOutOfRange { id }).at(line, 0));
         }
         if !sites.knows(id) {
-            let unknown = audit::refusal::Refusal::SiteUnknown { id };
-            return Some(refused(Fault::Terminal(unknown), line, 0));
+            return Some(Fault::from(TerminalRefusal::SiteUnknown { id }).at(line, 0));
         }
         None
     }
@@ -144,23 +136,22 @@ impl Draft {
         ensures bounds { result ≡ None → (from ≤ 64) × (to ≤ 64) × (cost ≤ 4000000) }
     {
         if self.problem.is_none() {
-            return Some(refused(Fault::LineOrder, line, 0));
+            return Some(Fault::LineOrder.at(line, 0));
         }
         if !self.is_site(from) {
-            return Some(refused(Fault::SiteOutOfRange, line, 2));
+            return Some(Fault::SiteOutOfRange.at(line, 2));
         }
         if !self.is_site(to) {
-            return Some(refused(Fault::SiteOutOfRange, line, 3));
+            return Some(Fault::SiteOutOfRange.at(line, 3));
         }
         if low != 0 {
-            return Some(refused(Fault::ArcBounds, line, 4));
+            return Some(Fault::ArcBounds.at(line, 4));
         }
         if cap < self.nodes.supply() {
-            return Some(refused(Fault::ArcBounds, line, 5));
+            return Some(Fault::ArcBounds.at(line, 5));
         }
         if 4_000_000 < cost {
-            let long = ruler::refusal::Refusal::LegTooLong;
-            return Some(refused(Fault::Leg(long), line, 0));
+            return Some(Fault::from(LegRefusal::LegTooLong).at(line, 0));
         }
         None
     }

@@ -5,7 +5,6 @@ ghost use Rattle.dimacs.specs.Layout.{Exact};
 ghost use Rattle.dimacs.specs.Scan.{complete, entered, scanned, well_formed};
 
 use crate::draft::Draft;
-use crate::draft::nodes::list::entries::refused;
 use crate::sites::Sites;
 use reader::line::{Line, read_line};
 use reader::reader::Reader;
@@ -62,7 +61,7 @@ fn scan_lines<S: Sites>(file: &[u8], sites: &S) -> Result<Draft, Refusal>
     ensures { given_by result ≡ scanned (S.known sites.now) file.now }
 {
     if !is_well_formed(file) {
-        return Err(refused(Fault::FileForm, 0, 0));
+        return Err(Fault::FileForm.at(0, 0));
     }
     let mut reader = Reader::new(file);
     let mut draft = Draft::nothing();
@@ -71,7 +70,7 @@ fn scan_lines<S: Sites>(file: &[u8], sites: &S) -> Result<Draft, Refusal>
         draft.enter(sites, reader.line(), said)?;
     }
     if !draft.is_complete() {
-        return Err(refused(Fault::ArcCount, reader.line() + 1, 0));
+        return Err(Fault::ArcCount.at(reader.line() + 1, 0));
     }
     Ok(draft)
 }
