@@ -56,14 +56,14 @@ module _ (known : ℕ → Bool) (p : the_problem.Problem) (short : p.arcs ≤ 20
       go : (r : Result Line Refusal) → said (n + 1) ws ≡ r → then (then r (entered known (n + 1) (draft p ns xs k))) (λ d. scanned_from known (n + 1) d rest) ≡ Ok e → ((xs : List the_arc.Arc) (k : ℕ) → 0 < k → scanned_from known (n + 1) (draft p ns xs k) rest ≡ Ok e → ArcsHeard p ns xs k rest e) → ArcsHeard p ns xs k (ws ∷ rest) e
       go (Ok Blank) is h more = quiet (says (n + 1) ws Blank is) (more xs k some h)
       go (Ok Comment) is h more = quiet (says (n + 1) ws Comment is) (more xs k some h)
-      go (Ok (Problem is_min sites arcs)) is h more = absurd (never h)
-      go (Ok (Node id flow)) is h more =
-          let w = went (node_asked known (n + 1) (draft p ns xs k) id flow) (with_node (draft p ns xs k) id flow) e (λ d. scanned_from known (n + 1) d rest) h in
+      go (Ok (Problem q)) is h more = absurd (never h)
+      go (Ok (Node m)) is h more =
+          let w = went (node_asked known (n + 1) (draft p ns xs k) m.id m.flow) (with_node (draft p ns xs k) m.id m.flow) e (λ d. scanned_from known (n + 1) d rest) h in
           let none = eqb-true k 0 (asked_first (eqb k 0) _ _ w.0).0 in
           absurd (omega arith)
-      go (Ok (Arc from to low cap cost)) is h more =
-          let w = went (arc_asked (n + 1) (draft p ns xs k) from to low cap cost) (with_arc (draft p ns xs k) from to cost) e (λ d. scanned_from known (n + 1) d rest) h in
-          one_more (record { from = from; to = to; low = low; cap = cap; cost = cost }) (says (n + 1) ws (Arc from to low cap cost) is) w.0 (more _ (k + 1) (omega arith) w.1)
+      go (Ok (Arc a)) is h more =
+          let w = went (arc_asked (n + 1) (draft p ns xs k) a.from a.to a.low a.cap a.cost) (with_arc (draft p ns xs k) a.from a.to a.cost) e (λ d. scanned_from known (n + 1) d rest) h in
+          one_more (record { from = a.from; to = a.to; low = a.low; cap = a.cap; cost = a.cost }) (says (n + 1) ws (Arc a) is) w.0 (more _ (k + 1) (omega arith) w.1)
       go (Err r) is h more = absurd (never h)
 
 -- a node that is not among these and one more is not among these, and is not that one
@@ -153,13 +153,13 @@ module _ (known : ℕ → Bool) (p : the_problem.Problem) (short : p.arcs ≤ 20
       go : (r : Result Line Refusal) → said (n + 1) ws ≡ r → then (then r (entered known (n + 1) (draft p ns [] 0))) (λ d. scanned_from known (n + 1) d rest) ≡ Ok e → ((ns : List the_node.Node) → scanned_from known (n + 1) (draft p ns [] 0) rest ≡ Ok e → NodesHeard known p ns rest e) → NodesHeard known p ns (ws ∷ rest) e
       go (Ok Blank) is h more = quiet (says (n + 1) ws Blank is) (more ns h)
       go (Ok Comment) is h more = quiet (says (n + 1) ws Comment is) (more ns h)
-      go (Ok (Problem is_min sites arcs)) is h more = absurd (never h)
-      go (Ok (Node id flow)) is h more =
-          let w = went (node_asked known (n + 1) (draft p ns [] 0) id flow) (with_node (draft p ns [] 0) id flow) e (λ d. scanned_from known (n + 1) d rest) h in
-          one_more (record { id = id; flow = flow }) (says (n + 1) ws (Node id flow) is) w.0 (more _ w.1)
-      go (Ok (Arc from to low cap cost)) is h more =
-          let w = went (arc_asked (n + 1) (draft p ns [] 0) from to low cap cost) (with_arc (draft p ns [] 0) from to cost) e (λ d. scanned_from known (n + 1) d rest) h in
-          first_arc (record { from = from; to = to; low = low; cap = cap; cost = cost }) (says (n + 1) ws (Arc from to low cap cost) is) w.0 (arcs_heard known p short e rest (n + 1) ns _ 1 (omega arith) w.1)
+      go (Ok (Problem q)) is h more = absurd (never h)
+      go (Ok (Node m)) is h more =
+          let w = went (node_asked known (n + 1) (draft p ns [] 0) m.id m.flow) (with_node (draft p ns [] 0) m.id m.flow) e (λ d. scanned_from known (n + 1) d rest) h in
+          one_more (record { id = m.id; flow = m.flow }) (says (n + 1) ws (Node m) is) w.0 (more _ w.1)
+      go (Ok (Arc a)) is h more =
+          let w = went (arc_asked (n + 1) (draft p ns [] 0) a.from a.to a.low a.cap a.cost) (with_arc (draft p ns [] 0) a.from a.to a.cost) e (λ d. scanned_from known (n + 1) d rest) h in
+          first_arc (record { from = a.from; to = a.to; low = a.low; cap = a.cap; cost = a.cost }) (says (n + 1) ws (Arc a) is) w.0 (arcs_heard known p short e rest (n + 1) ns _ 1 (omega arith) w.1)
       go (Err r) is h more = absurd (never h)
 
 -- The lines of a whole file say a document.
@@ -197,10 +197,10 @@ heard known e (ws ∷ rest) n h = go (said (n + 1) ws) refl h (heard known e res
     go : (r : Result Line Refusal) → said (n + 1) ws ≡ r → then (then r (entered known (n + 1) nothing)) (λ d. scanned_from known (n + 1) d rest) ≡ Ok e → (scanned_from known (n + 1) nothing rest ≡ Ok e → Heard known rest e) → Heard known (ws ∷ rest) e
     go (Ok Blank) is h more = quiet (says (n + 1) ws Blank is) (more h)
     go (Ok Comment) is h more = quiet (says (n + 1) ws Comment is) (more h)
-    go (Ok (Problem is_min sites arcs)) is h more =
-        let w = went (problem_asked (n + 1) nothing is_min sites arcs) (with_problem nothing sites arcs) e (λ d. scanned_from known (n + 1) d rest) h in
-        let passed = problem_passed (n + 1) is_min sites arcs w.0 in
-        begun sites arcs (says (n + 1) ws (Problem is_min sites arcs) is passed.0) passed.1 (nodes_heard known (record { sites = sites; arcs = arcs }) passed.1.short e rest (n + 1) [] w.1)
-    go (Ok (Node id flow)) is h more = absurd (never h)
-    go (Ok (Arc from to low cap cost)) is h more = absurd (never h)
+    go (Ok (Problem p)) is h more =
+        let w = went (problem_asked (n + 1) nothing p.is_min p.sites p.arcs) (with_problem nothing p.sites p.arcs) e (λ d. scanned_from known (n + 1) d rest) h in
+        let passed = problem_passed (n + 1) p.is_min p.sites p.arcs w.0 in
+        begun p.sites p.arcs (says (n + 1) ws (Problem p) is passed.0) passed.1 (nodes_heard known (record { sites = p.sites; arcs = p.arcs }) passed.1.short e rest (n + 1) [] w.1)
+    go (Ok (Node m)) is h more = absurd (never h)
+    go (Ok (Arc a)) is h more = absurd (never h)
     go (Err r) is h more = absurd (never h)

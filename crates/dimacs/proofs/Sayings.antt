@@ -36,9 +36,9 @@ module _ {A : Type 0} (d : A) where
 abbrev pub Says : List (List ℕ) → Line → Type 0
 Says ws Blank = Silent ws
 Says ws Comment = Silent ws
-Says ws (Problem is_min sites arcs) = is_min ≡ true → SaysProblem ws sites arcs
-Says ws (Node id flow) = SaysNode ws (record { id = id; flow = flow })
-Says ws (Arc from to low cap cost) = SaysArc ws (record { from = from; to = to; low = low; cap = cap; cost = cost })
+Says ws (Problem p) = p.is_min ≡ true → SaysProblem ws p.sites p.arcs
+Says ws (Node n) = SaysNode ws (record { id = n.id; flow = n.flow })
+Says ws (Arc a) = SaysArc ws (record { from = a.from; to = a.to; low = a.low; cap = a.cap; cost = a.cost })
 
 -- a line that is not refused has the words that its kind asks for
 counted_is : (line n : ℕ) (ws : List (List ℕ)) (r : Result Line Refusal) (l : Line) → counted line n ws r ≡ Ok l → (length ws ≡ n) × (r ≡ Ok l)
@@ -59,7 +59,7 @@ module _ (line : ℕ) (ws : List (List ℕ)) (l : Line) where
       let n = counted_is line 4 ws _ l e in
       let s = read_is line 3 (numeral (third ws)) _ l n.1 in
       let a = read_is line 4 (numeral (fourth ws)) _ l s.2 in
-      let is : Problem (says_min (second ws)) s.0 a.0 ≡ l = cc in
+      let is : Problem (record { is_min = says_min (second ws); sites = s.0; arcs = a.0 }) ≡ l = cc in
       let all = placed_all [] 4 ws n.0 in
       subst (Says ws) is (λ min. record { first = third ws; second = fourth ws; words = all ∙ ap (λ w. w ∷ second ws ∷ third ws ∷ fourth ws ∷ []) first ∙ ap (λ w. (112 ∷ []) ∷ w ∷ third ws ∷ fourth ws ∷ []) ((bytes_eq-Decides (second ws) (codes "min")).0 min); says_sites = s.1; says_arcs = a.1 })
 
@@ -68,7 +68,7 @@ module _ (line : ℕ) (ws : List (List ℕ)) (l : Line) where
       let n = counted_is line 3 ws _ l e in
       let i = read_is line 2 (numeral (second ws)) _ l n.1 in
       let f = read_is line 3 (flow_of (third ws)) _ l i.2 in
-      let is : Node i.0 f.0 ≡ l = cc in
+      let is : Node (record { id = i.0; flow = f.0 }) ≡ l = cc in
       let all = placed_all [] 3 ws n.0 in
       subst (Says ws) is (record { first = second ws; second = third ws; words = all ∙ ap (λ w. w ∷ second ws ∷ third ws ∷ []) first; says_id = i.1; says_flow = f.1 })
 
@@ -80,7 +80,7 @@ module _ (line : ℕ) (ws : List (List ℕ)) (l : Line) where
       let b = read_is line 4 (numeral (fourth ws)) _ l t.2 in
       let c = read_is line 5 (numeral (fifth ws)) _ l b.2 in
       let p = read_is line 6 (numeral (sixth ws)) _ l c.2 in
-      let is : Arc f.0 t.0 b.0 c.0 p.0 ≡ l = cc in
+      let is : Arc (record { from = f.0; to = t.0; low = b.0; cap = c.0; cost = p.0 }) ≡ l = cc in
       let all = placed_all [] 6 ws n.0 in
       subst (Says ws) is (record {
         first = second ws;
@@ -110,11 +110,11 @@ says line (w ∷ ws) l e = go (bytes_eq w (codes "c")) (bytes_eq w (codes "p")) 
 
 -- and those words say it
 module _ (line : ℕ) (ws : List (List ℕ)) where
-  pub problem_is_said : (sites arcs : ℕ) → SaysProblem ws sites arcs → said line ws ≡ Ok (Problem true sites arcs)
+  pub problem_is_said : (sites arcs : ℕ) → SaysProblem ws sites arcs → said line ws ≡ Ok (Problem (record { is_min = true; sites = sites; arcs = arcs }))
   problem_is_said sites arcs s = ap (said line) s.words ∙ simp (s.says_sites, s.says_arcs)
 
-  pub node_is_said : (n : NodeLine) → SaysNode ws n → said line ws ≡ Ok (Node n.id n.flow)
+  pub node_is_said : (n : NodeLine) → SaysNode ws n → said line ws ≡ Ok (Node (record { id = n.id; flow = n.flow }))
   node_is_said n s = ap (said line) s.words ∙ simp (s.says_id, s.says_flow)
 
-  pub arc_is_said : (a : ArcLine) → SaysArc ws a → said line ws ≡ Ok (Arc a.from a.to a.low a.cap a.cost)
+  pub arc_is_said : (a : ArcLine) → SaysArc ws a → said line ws ≡ Ok (Arc (record { from = a.from; to = a.to; low = a.low; cap = a.cap; cost = a.cost }))
   arc_is_said a s = ap (said line) s.words ∙ simp (s.says_from, s.says_to, s.says_low, s.says_cap, s.says_cost)

@@ -84,9 +84,9 @@ with_arc d from to cost =
 abbrev pub entered : (ℕ → Bool) → ℕ → Draft → Line → Result Draft Refusal
 entered known line d Blank = Ok d
 entered known line d Comment = Ok d
-entered known line d (Problem is_min sites arcs) = outcome (problem_asked line d is_min sites arcs) (with_problem d sites arcs)
-entered known line d (Node id flow) = outcome (node_asked known line d id flow) (with_node d id flow)
-entered known line d (Arc from to low cap cost) = outcome (arc_asked line d from to low cap cost) (with_arc d from to cost)
+entered known line d (Problem p) = outcome (problem_asked line d p.is_min p.sites p.arcs) (with_problem d p.sites p.arcs)
+entered known line d (Node n) = outcome (node_asked known line d n.id n.flow) (with_node d n.id n.flow)
+entered known line d (Arc a) = outcome (arc_asked line d a.from a.to a.low a.cap a.cost) (with_arc d a.from a.to a.cost)
 
 -- goes on unless refused
 abbrev pub then : {A B : Type 0} → Result A Refusal → (A → Result B Refusal) → Result B Refusal

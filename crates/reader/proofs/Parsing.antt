@@ -35,7 +35,7 @@ step_of p q w answer place text = go (eqb (length (unspaced p.left)) 0) answer (
         }
 
 module _ (first : List ℕ) (p0 p1 p2 : Place) (one : p0.word ≡ 1) (w1 w2 : Word) (s1 : Step p0 p1 w1) (s2 : Step p1 p2 w2) where
-  pub node_read : words p2.left ≡ [] → read_word numeral w1 (λ id. read_word flow_of w2 (λ flow. Ok (Node id flow))) ≡ node_said p0.line (first ∷ words p0.left)
+  pub node_read : words p2.left ≡ [] → read_word numeral w1 (λ id. read_word flow_of w2 (λ flow. Ok (Node (record { id = id; flow = flow })))) ≡ node_said p0.line (first ∷ words p0.left)
   node_read none =
       let n1 : w1.number ≡ 2 = let e = s1.number in omega arith in
       let n2 : w2.number ≡ 3 = let e = s2.number in let d = s1.count in omega arith in
@@ -44,7 +44,7 @@ module _ (first : List ℕ) (p0 p1 p2 : Place) (one : p0.word ≡ 1) (w1 w2 : Wo
       simp (s1.line, n1, l2, n2) (ap (λ l. node_said p0.line (first ∷ l)) (sym all))
 
 module _ (first : List ℕ) (p0 p1 p2 p3 p4 p5 : Place) (one : p0.word ≡ 1) (w1 w2 w3 w4 w5 : Word) (s1 : Step p0 p1 w1) (s2 : Step p1 p2 w2) (s3 : Step p2 p3 w3) (s4 : Step p3 p4 w4) (s5 : Step p4 p5 w5) where
-  pub arc_read : words p5.left ≡ [] → read_word numeral w1 (λ from. read_word numeral w2 (λ to. read_word numeral w3 (λ low. read_word numeral w4 (λ cap. read_word numeral w5 (λ cost. Ok (Arc from to low cap cost)))))) ≡ arc_said p0.line (first ∷ words p0.left)
+  pub arc_read : words p5.left ≡ [] → read_word numeral w1 (λ from. read_word numeral w2 (λ to. read_word numeral w3 (λ low. read_word numeral w4 (λ cap. read_word numeral w5 (λ cost. Ok (Arc (record { from = from; to = to; low = low; cap = cap; cost = cost }))))))) ≡ arc_said p0.line (first ∷ words p0.left)
   arc_read none =
       let c1 : p1.word ≡ 2 = let e = s1.count in omega arith in
       let c2 : p2.word ≡ 3 = let e = s2.count in omega arith in

@@ -45,17 +45,17 @@ says_min w = bytes_eq w (codes "min")
 -- p min N ARCS
 abbrev pub problem_said : ℕ → List (List ℕ) → Result Line Refusal
 problem_said line ws =
-    counted line 4 ws (read line 3 (numeral (third ws)) (λ sites. read line 4 (numeral (fourth ws)) (λ arcs. Ok (Problem (says_min (second ws)) sites arcs))))
+    counted line 4 ws (read line 3 (numeral (third ws)) (λ sites. read line 4 (numeral (fourth ws)) (λ arcs. Ok (Problem (record { is_min = says_min (second ws); sites = sites; arcs = arcs })))))
 
 -- n ID FLOW
 abbrev pub node_said : ℕ → List (List ℕ) → Result Line Refusal
 node_said line ws =
-    counted line 3 ws (read line 2 (numeral (second ws)) (λ id. read line 3 (flow_of (third ws)) (λ flow. Ok (Node id flow))))
+    counted line 3 ws (read line 2 (numeral (second ws)) (λ id. read line 3 (flow_of (third ws)) (λ flow. Ok (Node (record { id = id; flow = flow })))))
 
 -- a SRC DST LOW CAP COST
 abbrev pub arc_said : ℕ → List (List ℕ) → Result Line Refusal
 arc_said line ws =
-    counted line 6 ws (read line 2 (numeral (second ws)) (λ from. read line 3 (numeral (third ws)) (λ to. read line 4 (numeral (fourth ws)) (λ low. read line 5 (numeral (fifth ws)) (λ cap. read line 6 (numeral (sixth ws)) (λ cost. Ok (Arc from to low cap cost)))))))
+    counted line 6 ws (read line 2 (numeral (second ws)) (λ from. read line 3 (numeral (third ws)) (λ to. read line 4 (numeral (fourth ws)) (λ low. read line 5 (numeral (fifth ws)) (λ cap. read line 6 (numeral (sixth ws)) (λ cost. Ok (Arc (record { from = from; to = to; low = low; cap = cap; cost = cost }))))))))
 
 -- what a line says by its first word: c, p, n or a; a line without words is skipped
 abbrev pub said : ℕ → List (List ℕ) → Result Line Refusal

@@ -3,24 +3,36 @@ mod number;
 
 pub use number::read_line;
 
-#[derive(Clone, Copy)]
+// p min N ARCS
+#[derive(Clone, Copy, PartialEq, Eq, Debug)]
+pub struct ProblemLine {
+    pub is_min: bool,
+    pub sites: u64,
+    pub arcs: u64,
+}
+
+// n ID FLOW
+#[derive(Clone, Copy, PartialEq, Eq, Debug)]
+pub struct NodeLine {
+    pub id: u64,
+    pub flow: i64,
+}
+
+// a SRC DST LOW CAP COST
+#[derive(Clone, Copy, PartialEq, Eq, Debug)]
+pub struct ArcLine {
+    pub from: u64,
+    pub to: u64,
+    pub low: u64,
+    pub cap: u64,
+    pub cost: u64,
+}
+
+#[derive(Clone, Copy, PartialEq, Eq, Debug)]
 pub enum Line {
     Blank,
     Comment,
-    Problem {
-        is_min: bool,
-        sites: u64,
-        arcs: u64,
-    },
-    Node {
-        id: u64,
-        flow: i64,
-    },
-    Arc {
-        from: u64,
-        to: u64,
-        low: u64,
-        cap: u64,
-        cost: u64,
-    },
+    Problem(ProblemLine),
+    Node(NodeLine),
+    Arc(ArcLine),
 }

@@ -9,8 +9,8 @@ ghost use Rattle.reader.specs.Words.{rows, words};
 ghost use Rattle.reader.specs.declared.line.Line.TheVariants.{Arc, Node};
 ghost use Rattle.reader.specs.declared.refusal.Fault.TheVariants.{LineWords};
 
-use crate::line::Line;
 use crate::line::number::{flow, number};
+use crate::line::{ArcLine, Line, NodeLine, ProblemLine};
 use crate::reader::{Reader, Word};
 use crate::refusal::{Fault, Refusal};
 
@@ -71,16 +71,16 @@ fn read_problem(reader: &mut Reader) -> Result<Line, Refusal>
     let Some(arc_count) = number(arcs.text) else {
         return Err(malformed(arcs));
     };
-    Ok(Line::Problem {
+    Ok(Line::Problem(ProblemLine {
         is_min: kind.text == b"min".as_slice(),
         sites: site_count,
         arcs: arc_count,
-    })
+    }))
 }
 
 // The two numbers of a node, from its words.
 fn node_of<'a>(id: Word<'a>, amount: Word<'a>) -> Result<Line, Refusal>
-    ensures { result ≡ read_word numeral (word_of id.entry) (λ node. read_word flow_of (word_of amount.entry) (λ current. Ok (Node node current))) }
+    ensures { result ≡ read_word numeral (word_of id.entry) (λ node. read_word flow_of (word_of amount.entry) (λ current. Ok (Node (record { id = node; flow = current })))) }
 {
     let Some(node) = number(id.text) else {
         return Err(malformed(id));
@@ -88,10 +88,10 @@ fn node_of<'a>(id: Word<'a>, amount: Word<'a>) -> Result<Line, Refusal>
     let Some(current) = flow(amount.text) else {
         return Err(malformed(amount));
     };
-    Ok(Line::Node {
+    Ok(Line::Node(NodeLine {
         id: node,
         flow: current,
-    })
+    }))
 }
 
 // n ID FLOW
@@ -122,7 +122,7 @@ fn arc_of<'a>(
     most: Word<'a>,
     price: Word<'a>,
 ) -> Result<Line, Refusal>
-    ensures { result ≡ read_word numeral (word_of source.entry) (λ from. read_word numeral (word_of target.entry) (λ to. read_word numeral (word_of least.entry) (λ low. read_word numeral (word_of most.entry) (λ cap. read_word numeral (word_of price.entry) (λ cost. Ok (Arc from to low cap cost)))))) }
+    ensures { result ≡ read_word numeral (word_of source.entry) (λ from. read_word numeral (word_of target.entry) (λ to. read_word numeral (word_of least.entry) (λ low. read_word numeral (word_of most.entry) (λ cap. read_word numeral (word_of price.entry) (λ cost. Ok (Arc (record { from = from; to = to; low = low; cap = cap; cost = cost }))))))) }
 {
     let Some(from) = number(source.text) else {
         return Err(malformed(source));
@@ -139,13 +139,13 @@ fn arc_of<'a>(
     let Some(cost) = number(price.text) else {
         return Err(malformed(price));
     };
-    Ok(Line::Arc {
+    Ok(Line::Arc(ArcLine {
         from,
         to,
         low,
         cap,
         cost,
-    })
+    }))
 }
 
 // a SRC DST LOW CAP COST

@@ -10,7 +10,7 @@ use crate::draft::Draft;
 use crate::draft::nodes::Nodes;
 use crate::sites::Sites;
 use audit::refusal::Refusal as TerminalRefusal;
-use reader::line::Line;
+use reader::line::{ArcLine, NodeLine, ProblemLine};
 use reader::refusal::{Fault, Refusal};
 use ruler::refusal::Refusal as LegRefusal;
 
@@ -24,13 +24,14 @@ fn is_allowed(flow: i64) -> bool
     flow != 0 && -1_000_000 <= flow && flow <= 1_000_000
 }
 
-fn node(id: u64, flow: i64) -> Node
-    requires { (id ≤ 64) × (allowed flow ≡ true) }
-    ensures { result ≡ record { id = id; flow = flow } }
+fn node_of(line: NodeLine) -> Node
+    requires site { line.id ≤ 64 }
+    requires flow { allowed line.flow ≡ true }
+    ensures { result ≡ record { id = line.id; flow = line.flow } }
 {
     Node {
-        id: id as u32,
-        flow: flow as i32,
+        id: line.id as u32,
+        flow: line.flow as i32,
     }
 }
 
@@ -81,40 +82,40 @@ impl Draft {
         1 <= id && id <= u64::from(self.sites())
     }
 
-    fn problem_question(&self, line: usize, is_min: bool, sites: u64, arcs: u64) -> Option<Refusal>
-        ensures asked { result ≡ problem_asked line (draft_of self.now) is_min sites arcs }
-        ensures bounds { result ≡ None → (sites ≤ 64) × (arcs ≤ 2000) }
+    fn problem_question(&self, line: usize, problem: ProblemLine) -> Option<Refusal>
+        ensures asked { result ≡ problem_asked line (draft_of self.now) problem.is_min problem.sites problem.arcs }
+        ensures bounds { result ≡ None → (problem.sites ≤ 64) × (problem.arcs ≤ 2000) }
     {
         if self.problem.is_some() {
             return Some(Fault::LineOrder.at(line, 0));
         }
-        if !is_min {
+        if !problem.is_min {
             return Some(Fault::ProblemLine.at(line, 2));
         }
-        if sites < 1 || 64 < sites {
+        if problem.sites < 1 || 64 < problem.sites {
             return Some(Fault::ProblemLine.at(line, 3));
         }
-        if 2000 < arcs {
+        if 2000 < problem.arcs {
             return Some(Fault::ProblemLine.at(line, 4));
         }
         None
     }
 
-    fn node_question<S: Sites>(&self, sites: &S, line: usize, id: u64, flow: i64) -> Option<Refusal>
-        ensures asked { result ≡ node_asked (S.known sites.now) line (draft_of self.now) id flow }
-        ensures bounds { result ≡ None → (1 ≤ id) × (id ≤ 64) × (taken (draft_of self.now).nodes id ≡ false) × (allowed flow ≡ true) }
+    fn node_question<S: Sites>(&self, sites: &S, line: usize, node: NodeLine) -> Option<Refusal>
+        ensures asked { result ≡ node_asked (S.known sites.now) line (draft_of self.now) node.id node.flow }
+        ensures bounds { result ≡ None → (1 ≤ node.id) × (node.id ≤ 64) × (taken (draft_of self.now).nodes node.id ≡ false) × (allowed node.flow ≡ true) }
     {
         if self.problem.is_none() || self.lines != 0 {
             return Some(Fault::LineOrder.at(line, 0));
         }
-        if !self.is_site(id) {
+        if !self.is_site(node.id) {
             return Some(Fault::SiteOutOfRange.at(line, 2));
         }
-        let id = id as u32;
+        let id = node.id as u32;
         if self.nodes.has(id) {
             return Some(Fault::from(TerminalRefusal::IdTaken { id }).at(line, 0));
         }
-        if !is_allowed(flow) {
+        if !is_allowed(node.flow) {
             return Some(Fault::from(TerminalRefusal::CurrentOutOfRange { id }).at(line, 0));
         }
         if !sites.knows(id) {
@@ -123,55 +124,41 @@ impl Draft {
         None
     }
 
-    fn arc_question(
-        &self,
-        line: usize,
-        from: u64,
-        to: u64,
-        low: u64,
-        cap: u64,
-        cost: u64,
-    ) -> Option<Refusal>
-        ensures asked { result ≡ arc_asked line (draft_of self.now) from to low cap cost }
-        ensures bounds { result ≡ None → (from ≤ 64) × (to ≤ 64) × (cost ≤ 4000000) }
+    fn arc_question(&self, line: usize, arc: ArcLine) -> Option<Refusal>
+        ensures asked { result ≡ arc_asked line (draft_of self.now) arc.from arc.to arc.low arc.cap arc.cost }
+        ensures bounds { result ≡ None → (arc.from ≤ 64) × (arc.to ≤ 64) × (arc.cost ≤ 4000000) }
     {
         if self.problem.is_none() {
             return Some(Fault::LineOrder.at(line, 0));
         }
-        if !self.is_site(from) {
+        if !self.is_site(arc.from) {
             return Some(Fault::SiteOutOfRange.at(line, 2));
         }
-        if !self.is_site(to) {
+        if !self.is_site(arc.to) {
             return Some(Fault::SiteOutOfRange.at(line, 3));
         }
-        if low != 0 {
+        if arc.low != 0 {
             return Some(Fault::ArcBounds.at(line, 4));
         }
-        if cap < self.nodes.supply() {
+        if arc.cap < self.nodes.supply() {
             return Some(Fault::ArcBounds.at(line, 5));
         }
-        if 4_000_000 < cost {
+        if 4_000_000 < arc.cost {
             return Some(Fault::from(LegRefusal::LegTooLong).at(line, 0));
         }
         None
     }
 
-    fn enter_problem(
-        &mut self,
-        line: usize,
-        is_min: bool,
-        sites: u64,
-        arcs: u64,
-    ) -> Result<(), Refusal>
+    fn enter_problem(&mut self, line: usize, problem: ProblemLine) -> Result<(), Refusal>
         ensures lines { self.new.lines ≡ self.old.lines }
-        ensures entry { left_by result (draft_of self.new) ≡ outcome (problem_asked line (draft_of self.old) is_min sites arcs) (with_problem (draft_of self.old) sites arcs) }
+        ensures entry { left_by result (draft_of self.new) ≡ outcome (problem_asked line (draft_of self.old) problem.is_min problem.sites problem.arcs) (with_problem (draft_of self.old) problem.sites problem.arcs) }
     {
-        if let Some(refusal) = self.problem_question(line, is_min, sites, arcs) {
+        if let Some(refusal) = self.problem_question(line, problem) {
             return Err(refusal);
         }
         self.problem = Some(Problem {
-            sites: sites as u32,
-            arcs: arcs as u32,
+            sites: problem.sites as u32,
+            arcs: problem.arcs as u32,
         });
         Ok(())
     }
@@ -180,16 +167,15 @@ impl Draft {
         &mut self,
         sites: &S,
         line: usize,
-        id: u64,
-        flow: i64,
+        node: NodeLine,
     ) -> Result<(), Refusal>
         ensures lines { self.new.lines ≡ self.old.lines }
-        ensures entry { left_by result (draft_of self.new) ≡ outcome (node_asked (S.known sites.now) line (draft_of self.old) id flow) (with_node (draft_of self.old) id flow) }
+        ensures entry { left_by result (draft_of self.new) ≡ outcome (node_asked (S.known sites.now) line (draft_of self.old) node.id node.flow) (with_node (draft_of self.old) node.id node.flow) }
     {
-        if let Some(refusal) = self.node_question(sites, line, id, flow) {
+        if let Some(refusal) = self.node_question(sites, line, node) {
             return Err(refusal);
         }
-        self.nodes.add(node(id, flow));
+        self.nodes.add(node_of(node));
         Ok(())
     }
 
@@ -205,26 +191,18 @@ impl Draft {
         self.lines += 1;
     }
 
-    fn enter_arc(
-        &mut self,
-        line: usize,
-        from: u64,
-        to: u64,
-        low: u64,
-        cap: u64,
-        cost: u64,
-    ) -> Result<(), Refusal>
+    fn enter_arc(&mut self, line: usize, arc: ArcLine) -> Result<(), Refusal>
         requires { self.old.lines < 2 ^ 32 }
         ensures lines { self.new.lines ≤ self.old.lines + 1 }
-        ensures entry { left_by result (draft_of self.new) ≡ outcome (arc_asked line (draft_of self.old) from to low cap cost) (with_arc (draft_of self.old) from to cost) }
+        ensures entry { left_by result (draft_of self.new) ≡ outcome (arc_asked line (draft_of self.old) arc.from arc.to arc.low arc.cap arc.cost) (with_arc (draft_of self.old) arc.from arc.to arc.cost) }
     {
-        if let Some(refusal) = self.arc_question(line, from, to, low, cap, cost) {
+        if let Some(refusal) = self.arc_question(line, arc) {
             return Err(refusal);
         }
         self.keep_arc(Arc {
-            from: from as u32,
-            to: to as u32,
-            cost: cost as u32,
+            from: arc.from as u32,
+            to: arc.to as u32,
+            cost: arc.cost as u32,
         });
         Ok(())
     }

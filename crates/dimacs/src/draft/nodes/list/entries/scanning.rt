@@ -29,19 +29,9 @@ impl Draft {
     {
         match said {
             Line::Blank | Line::Comment => Ok(()),
-            Line::Problem {
-                is_min,
-                sites,
-                arcs,
-            } => self.enter_problem(line, is_min, sites, arcs),
-            Line::Node { id, flow } => self.enter_node(sites, line, id, flow),
-            Line::Arc {
-                from,
-                to,
-                low,
-                cap,
-                cost,
-            } => self.enter_arc(line, from, to, low, cap, cost),
+            Line::Problem(problem) => self.enter_problem(line, problem),
+            Line::Node(node) => self.enter_node(sites, line, node),
+            Line::Arc(arc) => self.enter_arc(line, arc),
         }
     }
 
