@@ -1,8 +1,8 @@
 -- What the questions of each kind of line ask, in the layout's words.
-use Rattle.std.proofs.Common.{◌≡◌, ℕ, ◌≤◌, Bool, true, false, not, ◌&&◌, eqb, leb, List, ◌∷◌, None, Option, refl, ap, ◌∙◌, arith}
+use Rattle.std.proofs.Common.{◌≡◌, ℕ, ◌≤◌, Bool, true, false, not, ◌&&◌, eqb, leb, List, ◌∷◌, Some, None, Ok, Err, Option, Result, refl, ap, ◌∙◌, arith}
 use Rattle.std.proofs.lemmas.Bool.{and_parts, and_from, eq-eqb, eqb-true, le-leb, leb-true, not_from_false, not-true}
 use Rattle.audit.specs.Questions.{allowed}
-use Rattle.dimacs.specs.Asking.{ask, first_no}
+use Rattle.dimacs.specs.Asking.{ask, first_no, outcome}
 use Rattle.dimacs.specs.declared.document.Problem as the_problem
 use Rattle.dimacs.specs.declared.document.Node as the_node
 use Rattle.dimacs.specs.declared.document.Arc as the_arc
@@ -87,3 +87,11 @@ module _ (doc : Document) (p : the_problem.Problem) (sites : doc.sites ≡ p.sit
         let cap = w.cap in
         let room : supply ns ≤ a.cap = omega arith in
         asks_first (on_site (draft p ns xs k) a.from) _ _ (on_site_passes k a.from w.from) (asks_first (on_site (draft p ns xs k) a.to) _ _ (on_site_passes k a.to w.to) (asks_first (eqb a.low 0) _ _ (eq-eqb a.low 0 w.low) (asks_first (leb (supply ns) a.cap) _ _ (le-leb (supply ns) a.cap room) (asks_first (leb a.cost 4000000) _ _ (le-leb a.cost 4000000 w.cost) refl))))
+
+-- a refusal is one whatever would have been left
+pub refused_still : {A B : Type 0} (q : Option Refusal) (e : Refusal) (x : A) (y : B) → Err e ≡ outcome q x → Err e ≡ outcome q y
+refused_still (Some r) e x y is = let same : e ≡ r = cc in ap Err same
+refused_still {A = A} None e x y is = absurd (clash is)
+  where
+    clash : ◌≡◌ {A = Result A Refusal} (Err e) (Ok x) → ⊥
+    clash is = let z : ◌≡◌ {A = ℕ} 0 1 = cc in omega arith

@@ -1,5 +1,5 @@
 // A line put to its questions, and then entered in the draft.
-ghost use Rattle.std.specs.Prelude.{◌≡◌, ◌+◌, ◌^◌, ◌<◌, ◌≤◌, true, false, None};
+ghost use Rattle.std.specs.Prelude.{◌≡◌, ◌+◌, ◌^◌, ◌<◌, ◌≤◌, true, false, OnOk};
 ghost use Rattle.audit.specs.Questions.{allowed};
 ghost use Rattle.dimacs.specs.Asking.{outcome};
 ghost use Rattle.dimacs.specs.Contents.{draft_of, left_by};
@@ -22,17 +22,6 @@ fn is_allowed(flow: i64) -> bool
     ensures { result ≡ allowed flow }
 {
     flow != 0 && -1_000_000 <= flow && flow <= 1_000_000
-}
-
-fn node_of(line: NodeLine) -> Node
-    requires site { line.id ≤ 64 }
-    requires flow { allowed line.flow ≡ true }
-    ensures { result ≡ record { id = line.id; flow = line.flow } }
-{
-    Node {
-        id: line.id as u32,
-        flow: line.flow as i32,
-    }
 }
 
 impl Draft {
@@ -82,80 +71,84 @@ impl Draft {
         1 <= id && id <= u64::from(self.sites())
     }
 
-    fn problem_question(&self, line: usize, problem: ProblemLine) -> Option<Refusal>
-        ensures asked { result ≡ problem_asked line (draft_of self.now) problem.is_min problem.sites problem.arcs }
-        ensures bounds { result ≡ None → (problem.sites ≤ 64) × (problem.arcs ≤ 2000) }
+    fn problem_question(&self, line: usize, problem: ProblemLine) -> Result<(), Refusal>
+        ensures asked { result ≡ outcome (problem_asked line (draft_of self.now) problem.is_min problem.sites problem.arcs) tt }
+        ensures few { OnOk result (problem.sites ≤ 64) }
+        ensures short { OnOk result (problem.arcs ≤ 2000) }
     {
         if self.problem.is_some() {
-            return Some(Fault::LineOrder.at(line, 0));
+            return Err(Fault::LineOrder.at(line, 0));
         }
         if !problem.is_min {
-            return Some(Fault::ProblemLine.at(line, 2));
+            return Err(Fault::ProblemLine.at(line, 2));
         }
         if problem.sites < 1 || 64 < problem.sites {
-            return Some(Fault::ProblemLine.at(line, 3));
+            return Err(Fault::ProblemLine.at(line, 3));
         }
         if 2000 < problem.arcs {
-            return Some(Fault::ProblemLine.at(line, 4));
+            return Err(Fault::ProblemLine.at(line, 4));
         }
-        None
+        Ok(())
     }
 
-    fn node_question<S: Sites>(&self, sites: &S, line: usize, node: NodeLine) -> Option<Refusal>
-        ensures asked { result ≡ node_asked (S.known sites.now) line (draft_of self.now) node.id node.flow }
-        ensures bounds { result ≡ None → (1 ≤ node.id) × (node.id ≤ 64) × (taken (draft_of self.now).nodes node.id ≡ false) × (allowed node.flow ≡ true) }
+    fn node_question<S: Sites>(&self, sites: &S, line: usize, node: NodeLine) -> Result<(), Refusal>
+        ensures asked { result ≡ outcome (node_asked (S.known sites.now) line (draft_of self.now) node.id node.flow) tt }
+        ensures low { OnOk result (1 ≤ node.id) }
+        ensures high { OnOk result (node.id ≤ 64) }
+        ensures free { OnOk result (taken (draft_of self.now).nodes node.id ≡ false) }
+        ensures flow { OnOk result (allowed node.flow ≡ true) }
     {
         if self.problem.is_none() || self.lines != 0 {
-            return Some(Fault::LineOrder.at(line, 0));
+            return Err(Fault::LineOrder.at(line, 0));
         }
         if !self.is_site(node.id) {
-            return Some(Fault::SiteOutOfRange.at(line, 2));
+            return Err(Fault::SiteOutOfRange.at(line, 2));
         }
         let id = node.id as u32;
         if self.nodes.has(id) {
-            return Some(Fault::from(TerminalRefusal::IdTaken { id }).at(line, 0));
+            return Err(Fault::from(TerminalRefusal::IdTaken { id }).at(line, 0));
         }
         if !is_allowed(node.flow) {
-            return Some(Fault::from(TerminalRefusal::CurrentOutOfRange { id }).at(line, 0));
+            return Err(Fault::from(TerminalRefusal::CurrentOutOfRange { id }).at(line, 0));
         }
         if !sites.knows(id) {
-            return Some(Fault::from(TerminalRefusal::SiteUnknown { id }).at(line, 0));
+            return Err(Fault::from(TerminalRefusal::SiteUnknown { id }).at(line, 0));
         }
-        None
+        Ok(())
     }
 
-    fn arc_question(&self, line: usize, arc: ArcLine) -> Option<Refusal>
-        ensures asked { result ≡ arc_asked line (draft_of self.now) arc.from arc.to arc.low arc.cap arc.cost }
-        ensures bounds { result ≡ None → (arc.from ≤ 64) × (arc.to ≤ 64) × (arc.cost ≤ 4000000) }
+    fn arc_question(&self, line: usize, arc: ArcLine) -> Result<(), Refusal>
+        ensures asked { result ≡ outcome (arc_asked line (draft_of self.now) arc.from arc.to arc.low arc.cap arc.cost) tt }
+        ensures from { OnOk result (arc.from ≤ 64) }
+        ensures to { OnOk result (arc.to ≤ 64) }
+        ensures cost { OnOk result (arc.cost ≤ 4000000) }
     {
         if self.problem.is_none() {
-            return Some(Fault::LineOrder.at(line, 0));
+            return Err(Fault::LineOrder.at(line, 0));
         }
         if !self.is_site(arc.from) {
-            return Some(Fault::SiteOutOfRange.at(line, 2));
+            return Err(Fault::SiteOutOfRange.at(line, 2));
         }
         if !self.is_site(arc.to) {
-            return Some(Fault::SiteOutOfRange.at(line, 3));
+            return Err(Fault::SiteOutOfRange.at(line, 3));
         }
         if arc.low != 0 {
-            return Some(Fault::ArcBounds.at(line, 4));
+            return Err(Fault::ArcBounds.at(line, 4));
         }
         if arc.cap < self.nodes.supply() {
-            return Some(Fault::ArcBounds.at(line, 5));
+            return Err(Fault::ArcBounds.at(line, 5));
         }
         if 4_000_000 < arc.cost {
-            return Some(Fault::from(LegRefusal::LegTooLong).at(line, 0));
+            return Err(Fault::from(LegRefusal::LegTooLong).at(line, 0));
         }
-        None
+        Ok(())
     }
 
     fn enter_problem(&mut self, line: usize, problem: ProblemLine) -> Result<(), Refusal>
         ensures lines { self.new.lines ≡ self.old.lines }
         ensures entry { left_by result (draft_of self.new) ≡ outcome (problem_asked line (draft_of self.old) problem.is_min problem.sites problem.arcs) (with_problem (draft_of self.old) problem.sites problem.arcs) }
     {
-        if let Some(refusal) = self.problem_question(line, problem) {
-            return Err(refusal);
-        }
+        self.problem_question(line, problem)?;
         self.problem = Some(Problem {
             sites: problem.sites as u32,
             arcs: problem.arcs as u32,
@@ -172,10 +165,11 @@ impl Draft {
         ensures lines { self.new.lines ≡ self.old.lines }
         ensures entry { left_by result (draft_of self.new) ≡ outcome (node_asked (S.known sites.now) line (draft_of self.old) node.id node.flow) (with_node (draft_of self.old) node.id node.flow) }
     {
-        if let Some(refusal) = self.node_question(sites, line, node) {
-            return Err(refusal);
-        }
-        self.nodes.add(node_of(node));
+        self.node_question(sites, line, node)?;
+        self.nodes.add(Node {
+            id: node.id as u32,
+            flow: node.flow as i32,
+        });
         Ok(())
     }
 
@@ -196,9 +190,7 @@ impl Draft {
         ensures lines { self.new.lines ≤ self.old.lines + 1 }
         ensures entry { left_by result (draft_of self.new) ≡ outcome (arc_asked line (draft_of self.old) arc.from arc.to arc.low arc.cap arc.cost) (with_arc (draft_of self.old) arc.from arc.to arc.cost) }
     {
-        if let Some(refusal) = self.arc_question(line, arc) {
-            return Err(refusal);
-        }
+        self.arc_question(line, arc)?;
         self.keep_arc(Arc {
             from: arc.from as u32,
             to: arc.to as u32,
