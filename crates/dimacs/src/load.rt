@@ -19,8 +19,7 @@ use sheet::sheet::Sheet;
 fn lay_arcs(map: &mut Map, arcs: &[Arc])
     ensures { (c : Chart) → Shows map.old c → Shows map.new (course c (legs_of arcs.now)) }
 {
-    for i in 0..arcs.len() {
-        let arc = arcs[i];
+    for arc in arcs {
         map.make(Step::Leg {
             from: arc.from,
             to: arc.to,
@@ -61,8 +60,8 @@ fn seat_nodes<R: Ruler>(sheet: &mut Sheet<R>, nodes: &[Node])
     ensures same { sheet.new.ruler ≡ sheet.old.ruler }
     ensures law { Lawful (R.meaning sheet.old.ruler) sheet.old.net → Lawful (R.meaning sheet.new.ruler) sheet.new.net }
 {
-    for i in 0..nodes.len() {
-        seat_node(sheet, &nodes[i]);
+    for node in nodes {
+        seat_node(sheet, node);
     }
 }
 

@@ -5,13 +5,13 @@ use Rattle.ruler.proofs.Charts.{course_push}
 use Rattle.dimacs.specs.Loads.{leg_step, legs_of}
 use Rattle.dimacs.proofs.load.lay_arcs.Goals as goal
 
-pub loop-i-preserved : goal.loop-i-preserved
-loop-i-preserved c = λ chart shown.
+pub loop-arc-preserved : goal.loop-arc-preserved
+loop-arc-preserved c = λ chart shown.
     let arcs = c.args.arcs.now in
-    let so = legs_of (take c.loop-i.i arcs) in
-    let more = ap (course chart) (map_more leg_step arcs c.loop-i.i _ c.loop-i-test.true) ∙ course_push chart so _ in
-    subst (Shows _) (sym more) (c.make.ensures (course chart so) (c.loop-i.invariant chart shown))
+    let so = legs_of (take c.loop-arc.arc-index arcs) in
+    let more = ap (course chart) (map_more leg_step arcs c.loop-arc.arc-index _ c.loop-arc-test.true) ∙ course_push chart so _ in
+    subst (Shows _) (sym more) (c.make.ensures (course chart so) (c.loop-arc.invariant chart shown))
 
 pub returns : goal.returns
 returns c = λ chart shown.
-    subst (λ l. Shows c.loop-i.map (course chart (legs_of l))) (take_all c.loop-i.i c.args.arcs.now c.loop-i-test.false) (c.loop-i.invariant chart shown)
+    subst (λ l. Shows c.loop-arc.map (course chart (legs_of l))) (take_all c.loop-arc.arc-index c.args.arcs.now c.loop-arc-test.false) (c.loop-arc.invariant chart shown)

@@ -4,8 +4,8 @@ use Rattle.sheet.specs.Law.{Lawful}
 use Rattle.dimacs.specs.Loads.{Seated, seats_of}
 use Rattle.dimacs.proofs.load.seat_nodes.Given as goal
 
-abbrev pub invariant-loop-i : goal.invariant-loop-i
-invariant-loop-i g l =
+abbrev pub invariant-loop-node : goal.invariant-loop-node
+invariant-loop-node g l =
     (l.sheet.ruler ≡ l.initial.sheet.ruler)
-    × Seated (g.R.Ruler.meaning l.initial.sheet.ruler) l.initial.sheet.net l.sheet.net (seats_of (take l.i l.nodes))
+    × Seated (g.R.Ruler.meaning l.initial.sheet.ruler) l.initial.sheet.net l.sheet.net (seats_of (take l.node-index l.nodes))
     × (Lawful (g.R.Ruler.meaning l.initial.sheet.ruler) l.initial.sheet.net → Lawful (g.R.Ruler.meaning l.sheet.ruler) l.sheet.net)
