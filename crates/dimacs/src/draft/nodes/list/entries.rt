@@ -21,7 +21,7 @@ pub use scanning::scan;
 fn is_allowed(flow: i64) -> bool
     ensures { result ≡ allowed flow }
 {
-    flow != 0 && -1_000_000 <= flow && flow <= 1_000_000
+    flow != 0 && (-1_000_000..=1_000_000).contains(&flow)
 }
 
 impl Draft {
@@ -45,10 +45,7 @@ impl Draft {
         ensures value { result ≡ sites_of self.now.problem }
         ensures bound { result ≤ 64 }
     {
-        match self.problem {
-            Some(problem) => problem.sites,
-            None => 0,
-        }
+        self.problem.map_or(0, |problem| problem.sites)
     }
 
     // The nodes in their order.
@@ -68,7 +65,7 @@ impl Draft {
     fn is_site(&self, id: u64) -> bool
         ensures { result ≡ on_site (draft_of self.now) id }
     {
-        1 <= id && id <= u64::from(self.sites())
+        (1..=u64::from(self.sites())).contains(&id)
     }
 
     fn problem_question(&self, line: usize, problem: ProblemLine) -> Result<(), Refusal>
@@ -82,7 +79,7 @@ impl Draft {
         if !problem.is_min {
             return Err(Fault::ProblemLine.at(line, 2));
         }
-        if problem.sites < 1 || 64 < problem.sites {
+        if !(1..=64).contains(&problem.sites) {
             return Err(Fault::ProblemLine.at(line, 3));
         }
         if 2000 < problem.arcs {

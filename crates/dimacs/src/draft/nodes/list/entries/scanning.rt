@@ -14,10 +14,7 @@ use reader::refusal::{Fault, Refusal};
 fn is_well_formed(file: &[u8]) -> bool
     ensures { result ≡ well_formed file.now }
 {
-    match file.last() {
-        Some(byte) => file.len() <= 65_536 && *byte == b'\n',
-        None => false,
-    }
+    file.len() <= 65_536 && file.ends_with(b"\n")
 }
 
 impl Draft {
@@ -39,10 +36,8 @@ impl Draft {
     fn is_complete(&self) -> bool
         ensures { result ≡ complete self.now.problem self.now.lines }
     {
-        match self.problem {
-            Some(problem) => problem.arcs as usize == self.lines,
-            None => false,
-        }
+        self.problem
+            .is_some_and(|problem| problem.arcs as usize == self.lines)
     }
 }
 
