@@ -78,22 +78,6 @@ fn read_problem(reader: &mut Reader) -> Result<Line, Refusal>
     }))
 }
 
-// The two numbers of a node, from its words.
-fn node_of<'a>(id: Word<'a>, amount: Word<'a>) -> Result<Line, Refusal>
-    ensures { result ≡ read_word numeral (word_of id.entry) (λ node. read_word flow_of (word_of amount.entry) (λ current. Ok (Node (record { id = node; flow = current })))) }
-{
-    let Some(node) = number(id.text) else {
-        return Err(malformed(id));
-    };
-    let Some(current) = flow(amount.text) else {
-        return Err(malformed(amount));
-    };
-    Ok(Line::Node(NodeLine {
-        id: node,
-        flow: current,
-    }))
-}
-
 // n ID FLOW
 fn read_node(reader: &mut Reader) -> Result<Line, Refusal>
     requires { reader.old.word ≡ 1 }
@@ -111,7 +95,16 @@ fn read_node(reader: &mut Reader) -> Result<Line, Refusal>
     let None = take_word(reader) else {
         return Err(miscounted(line));
     };
-    node_of(id, amount)
+    let Some(node) = number(id.text) else {
+        return Err(malformed(id));
+    };
+    let Some(current) = flow(amount.text) else {
+        return Err(malformed(amount));
+    };
+    Ok(Line::Node(NodeLine {
+        id: node,
+        flow: current,
+    }))
 }
 
 // The five numbers of an arc, from its words.
