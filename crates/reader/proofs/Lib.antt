@@ -1,3 +1,2 @@
-mod Parsing
 mod Splitting
 pub mod Wording

@@ -6,7 +6,6 @@ use Rattle.reader.specs.declared.line.Line.TheVariants.{Blank, Comment, Problem,
 use Rattle.reader.specs.declared.refusal.Fault.TheVariants.{LineKind, LineWords}
 use Rattle.reader.specs.declared.refusal.Refusal.{Refusal}
 use Rattle.reader.specs.Numbers.{numeral, flow_of}
-use Rattle.reader.specs.Reading.{Word}
 use Rattle.reader.specs.Refusals.{refused}
 
 -- the k-th word of a line, counted from 1 as its kind is the first
@@ -29,10 +28,6 @@ sixth ws = slice_index_or ws 5 []
 abbrev pub read : {A : Type 0} → ℕ → ℕ → Option A → (A → Result Line Refusal) → Result Line Refusal
 read line word (Some x) go = go x
 read line word None go = Err (refused LineWords line word)
-
--- the same by the word itself
-abbrev pub read_word : {A : Type 0} → (List ℕ → Option A) → Word → (A → Result Line Refusal) → Result Line Refusal
-read_word value w go = read w.line w.number (value w.text) go
 
 -- a line has just as many words as its kind asks for
 abbrev pub counted : ℕ → ℕ → List (List ℕ) → Result Line Refusal → Result Line Refusal

@@ -1,5 +1,5 @@
 -- Where a reader stands in a file, and how it goes on.
-use Rattle.std.specs.Prelude.{ℕ, ◌+◌, cond, List, [], ◌∷◌, length, Some, None, Option, ◌==◌}
+use Rattle.std.specs.Prelude.{◌≡◌, ℕ, ◌+◌, cond, List, [], ◌∷◌, length, Some, None, Option, ◌==◌}
 use Rattle.reader.specs.declared.reader.Reader.{Reader}
 use Rattle.reader.specs.declared.reader.Word as lent
 
@@ -58,3 +58,8 @@ worded p =
 abbrev pub next_word : Place → Option Word
 next_word p =
     cond (length (unspaced p.left) == 0) None (Some (record { text = upto 32 (unspaced p.left); line = p.line; number = p.word + 1 }))
+
+-- words of one line, one after another from the n-th
+abbrev pub Follow : ℕ → ℕ → List Word → Type 0
+Follow line n [] = Unit {0}
+Follow line n (w ∷ ws) = (w.line ≡ line) × (w.number ≡ n) × Follow line (n + 1) ws

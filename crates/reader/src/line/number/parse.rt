@@ -1,12 +1,10 @@
 // The words of a line, taken one after another: a line that has not just its words is refused before any word is looked at.
-ghost use Rattle.std.specs.Prelude.{◌≡◌, ℕ, ◌+◌, ◌≤◌, List, [], ◌∷◌, length, is_some, if◌then◌else◌, Some, None, Ok};
+ghost use Rattle.std.specs.Prelude.{◌≡◌, ℕ, ◌+◌, ◌≤◌, List, [], ◌∷◌, length, is_some, if◌then◌else◌, Some, None};
 ghost use Rattle.std.specs.Option.{option_map};
-ghost use Rattle.reader.specs.Lines.{arc_said, next_said, node_said, problem_said, read_word, said, tail};
-ghost use Rattle.reader.specs.Numbers.{flow_of, numeral};
-ghost use Rattle.reader.specs.Reading.{lined, next_word, place_of, word_of, worded};
+ghost use Rattle.reader.specs.Lines.{arc_said, next_said, node_said, problem_said, said, tail};
+ghost use Rattle.reader.specs.Reading.{Follow, lined, next_word, place_of, word_of, worded};
 ghost use Rattle.reader.specs.Refusals.{refused};
 ghost use Rattle.reader.specs.Words.{rows, words};
-ghost use Rattle.reader.specs.declared.line.Line.TheVariants.{Arc, Node};
 ghost use Rattle.reader.specs.declared.refusal.Fault.TheVariants.{LineWords};
 
 use crate::line::number::{flow, number};
@@ -115,7 +113,8 @@ fn arc_of<'a>(
     most: Word<'a>,
     price: Word<'a>,
 ) -> Result<Line, Refusal>
-    ensures { result ≡ read_word numeral (word_of source.entry) (λ from. read_word numeral (word_of target.entry) (λ to. read_word numeral (word_of least.entry) (λ low. read_word numeral (word_of most.entry) (λ cap. read_word numeral (word_of price.entry) (λ cost. Ok (Arc (record { from = from; to = to; low = low; cap = cap; cost = cost }))))))) }
+    requires { Follow source.line 2 (word_of source ∷ word_of target ∷ word_of least ∷ word_of most ∷ word_of price ∷ []) }
+    ensures { (w : List ℕ) → result ≡ arc_said source.entry.line (w ∷ source.entry.text.now ∷ target.entry.text.now ∷ least.entry.text.now ∷ most.entry.text.now ∷ price.entry.text.now ∷ []) }
 {
     let Some(from) = number(source.text) else {
         return Err(malformed(source));
