@@ -1,5 +1,5 @@
 -- The first piece of a text and the first word of a line, and what follows them.
-use Rattle.std.proofs.Common.{◌≡◌, ℕ, ◌+◌, ◌<◌, ◌≤◌, cond, eqb, List, [], ◌∷◌, map, length, Some, None, Option, refl, ap, arith}
+use Rattle.std.proofs.Common.{◌≡◌, ℕ, cond, eqb, List, [], ◌∷◌, map, length, Some, None, Option, refl, ap, arith}
 use Rattle.std.proofs.lemmas.Grind.{common_steps}
 use Rattle.std.specs.Option.{option_map}
 use Rattle.reader.specs.declared.reader.Word as lent
@@ -19,15 +19,6 @@ rows_next (b ∷ bs) = grind (arith, common_steps, ap (map words) (pieces_next 1
 pub words_next : (s : List ℕ) → words s ≡ cond (eqb (length (unspaced s)) 0) [] (upto 32 (unspaced s) ∷ words (past 32 (unspaced s)))
 words_next [] = refl
 words_next (b ∷ bs) = grind (arith, common_steps, ap kept (pieces_next 32 b bs), words_next bs)
-
--- what follows a stop is shorter than the text before it
-past_le : (stop : ℕ) (s : List ℕ) → length (past stop s) ≤ length s
-past_le stop [] = omega arith
-past_le stop (b ∷ bs) = grind (arith, past_le stop bs)
-
-pub past_shorter : (stop : ℕ) (s : List ℕ) → 0 < length s → length (past stop s) + 1 ≤ length s
-past_shorter stop [] some = absurd (omega arith)
-past_shorter stop (b ∷ bs) some = grind (arith, past_le stop bs)
 
 -- from a place past the next word
 pub word_taken : (p q : Place) (o : Option lent.Word) → option_map word_of o ≡ next_word p → q ≡ worded p → words p.left ≡ elim o [ Some w ↦ w.text.now ∷ words q.left | None ↦ [] ]
