@@ -1,5 +1,6 @@
-use Rattle.std.proofs.Common.{take, sym, ap, ◌∙◌, subst}
-use Rattle.std.proofs.lemmas.List.{map_more, take_all}
+use Rattle.std.proofs.Common.{take, sym, ap, ◌∙◌, subst, arith}
+use Rattle.std.proofs.lemmas.Grind.{common_steps}
+use Rattle.std.proofs.lemmas.List.{map_more}
 use Rattle.ruler.specs.Chart.{Shows, course}
 use Rattle.ruler.proofs.Charts.{course_push}
 use Rattle.dimacs.specs.Loads.{leg_step, legs_of}
@@ -13,5 +14,4 @@ loop-arc-preserved c = λ chart shown.
     subst (Shows _) (sym more) (c.make.ensures (course chart so) (c.loop-arc.invariant chart shown))
 
 pub returns : goal.returns
-returns c = λ chart shown.
-    subst (λ l. Shows c.loop-arc.map (course chart (legs_of l))) (take_all c.loop-arc.arc-index c.args.arcs.now c.loop-arc-test.false) (c.loop-arc.invariant chart shown)
+returns c = λ chart shown. grind (arith, common_steps, c.loop-arc.invariant chart shown)
