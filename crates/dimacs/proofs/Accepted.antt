@@ -2,8 +2,9 @@
 use Rattle.std.proofs.Common.{◌≡◌, ℕ, suc, ◌+◌, ◌<◌, ◌≤◌, Bool, false, cond, eqb, ltb, List, [], ◌∷◌, ◌++◌, map, length, Some, None, Ok, Err, Result, sym, refl, ap, ◌∙◌, subst, inl, inr, arith}
 use Rattle.std.specs.List.{AllByRecursion}
 use Rattle.std.proofs.ByRecursion.{All-weaker}
+use Rattle.std.proofs.lemmas.Grind.{common_steps}
 use Rattle.std.proofs.lemmas.List.{append-nil, append_assoc}
-use Rattle.std.proofs.lemmas.Bool.{eqb-false, eqb-true, or_parts}
+use Rattle.std.proofs.lemmas.Bool.{eqb-false, or_parts}
 use Rattle.dimacs.specs.declared.document.Problem as the_problem
 use Rattle.dimacs.specs.declared.document.Node as the_node
 use Rattle.dimacs.specs.declared.document.Arc as the_arc
@@ -14,7 +15,7 @@ use Rattle.dimacs.specs.Layout.{ArcLine, ArcWithin, Distinct, Document, NodeLine
 use Rattle.reader.specs.Lines.{said}
 use Rattle.dimacs.specs.Scan.{Draft, arc_asked, entered, node_asked, nothing, problem_asked, scanned_from, taken, then, with_arc, with_node, with_problem}
 use Rattle.dimacs.proofs.Drafts.{Rows, draft, draft_arc, draft_end, finished_is, taken_push, went}
-use Rattle.dimacs.proofs.Questions.{Sized, arc_passed, asked_first, node_passed, problem_passed}
+use Rattle.dimacs.proofs.Questions.{Sized, arc_passed, node_passed, problem_passed}
 use Rattle.dimacs.proofs.Sayings.{never, says}
 
 -- what is said after a line that says nothing
@@ -59,7 +60,7 @@ module _ (known : ℕ → Bool) (p : the_problem.Problem) (short : p.arcs ≤ 20
       go (Ok (Problem q)) is h more = absurd (never h)
       go (Ok (Node m)) is h more =
           let w = went (node_asked known (n + 1) (draft p ns xs k) m.id m.flow) (with_node (draft p ns xs k) m.id m.flow) e (λ d. scanned_from known (n + 1) d rest) h in
-          let none = eqb-true k 0 (asked_first (eqb k 0) _ _ w.0).0 in
+          let none : k ≡ 0 = let asked = w.0 in grind (arith, common_steps) in
           absurd (omega arith)
       go (Ok (Arc a)) is h more =
           let w = went (arc_asked (n + 1) (draft p ns xs k) a.from a.to a.low a.cap a.cost) (with_arc (draft p ns xs k) a.from a.to a.cost) e (λ d. scanned_from known (n + 1) d rest) h in

@@ -1,7 +1,7 @@
 -- A draft that has its problem, and what one more line makes of it.
-use Rattle.std.proofs.Common.{◌≡◌, ℕ, suc, ◌+◌, ◌<◌, Bool, true, false, cond, ◌||◌, eqb, ltb, List, [], ◌∷◌, ◌++◌, Some, None, Ok, Err, Option, Result, sym, refl, ap, ◌∙◌, arith}
-use Rattle.std.proofs.lemmas.List.{append-nil, append_assoc}
-use Rattle.std.proofs.lemmas.Bool.{cond-true, eqb-true, eq-eqb, lt-ltb}
+use Rattle.std.proofs.Common.{◌≡◌, ℕ, suc, ◌+◌, ◌<◌, Bool, true, false, cond, ◌||◌, eqb, ltb, List, [], ◌∷◌, ◌++◌, Some, None, Ok, Err, Option, Result, refl, ap, arith}
+use Rattle.std.proofs.lemmas.Grind.{common_steps}
+use Rattle.std.proofs.lemmas.Bool.{eqb-true}
 use Rattle.dimacs.specs.Asking.{outcome}
 use Rattle.dimacs.specs.declared.document.Problem as the_problem
 use Rattle.dimacs.specs.declared.document.Node as the_node
@@ -32,16 +32,8 @@ silent_entered known line d (w ∷ ws) s = ap (λ v. row_entered known line d (v
 
 -- the ids of these nodes and one more
 pub taken_push : (ns : List the_node.Node) (m : the_node.Node) (id : ℕ) → taken (ns ++ (m ∷ [])) id ≡ (taken ns id || eqb m.id id)
-taken_push [] m id = go (eqb m.id id)
-  where
-    go : (t : Bool) → (t || false) ≡ t
-    go true = refl
-    go false = refl
-taken_push (n ∷ ns) m id = go (eqb n.id id) (taken_push ns m id)
-  where
-    go : (t : Bool) → taken (ns ++ (m ∷ [])) id ≡ (taken ns id || eqb m.id id) → (t || taken (ns ++ (m ∷ [])) id) ≡ ((t || taken ns id) || eqb m.id id)
-    go true more = refl
-    go false more = more
+taken_push [] m id = grind (arith, common_steps)
+taken_push (n ∷ ns) m id = grind (arith, common_steps, taken_push ns m id)
 
 module _ (p : the_problem.Problem) (ns : List the_node.Node) where
   -- at the end the arcs are as many as the problem says
@@ -53,14 +45,12 @@ module _ (p : the_problem.Problem) (ns : List the_node.Node) where
       go false same is = absurd (never is)
 
   pub finishes : (line : ℕ) (xs : List the_arc.Arc) (k : ℕ) → p.arcs ≡ k → finished line (draft p ns xs k) ≡ Ok (draft p ns xs k)
-  finishes line xs k is = cond-true (eqb p.arcs k) (Ok (draft p ns xs k)) (Err (refused ArcCount line 0)) (eq-eqb p.arcs k is)
+  finishes line xs k is = grind (arith, common_steps)
 
   -- no arcs more
   pub draft_end : (xs : List the_arc.Arc) (k : ℕ) → draft p ns xs k ≡ draft p ns (xs ++ []) (k + 0)
-  draft_end xs k = let same : k ≡ k + 0 = omega arith in ap (λ l. draft p ns l k) (sym (append-nil xs)) ∙ ap (draft p ns (xs ++ [])) same
+  draft_end xs k = grind (arith, common_steps)
 
   -- one arc and then others
   pub draft_arc : (xs ys : List the_arc.Arc) (x : the_arc.Arc) (k m : ℕ) → k < 2000 → draft p ns (cond (ltb k 2000) (xs ++ (x ∷ [])) xs ++ ys) (k + 1 + m) ≡ draft p ns (xs ++ (x ∷ ys)) (k + suc m)
-  draft_arc xs ys x k m room =
-      let same : k + 1 + m ≡ k + suc m = omega arith in
-      ap (λ l. draft p ns (l ++ ys) (k + 1 + m)) (cond-true (ltb k 2000) (xs ++ (x ∷ [])) xs (lt-ltb k 2000 room)) ∙ ap (λ l. draft p ns l (k + 1 + m)) (append_assoc xs (x ∷ []) ys) ∙ ap (draft p ns (xs ++ (x ∷ ys))) same
+  draft_arc xs ys x k m room = grind (arith, common_steps)
