@@ -1,10 +1,9 @@
 -- A scan that ends well heard a document within the limits.
-use Rattle.std.proofs.Common.{◌≡◌, ℕ, suc, ◌+◌, ◌<◌, ◌≤◌, Bool, false, cond, eqb, ltb, List, [], ◌∷◌, ◌++◌, map, length, Some, None, Ok, Err, Result, sym, refl, ap, ◌∙◌, subst, inl, inr, arith}
+use Rattle.std.proofs.Common.{◌≡◌, ℕ, suc, ◌+◌, ◌<◌, ◌≤◌, Bool, false, cond, ltb, List, [], ◌∷◌, ◌++◌, map, length, Some, None, Ok, Err, Result, sym, refl, ap, ◌∙◌, subst, inl, inr, arith}
 use Rattle.std.specs.List.{AllByRecursion}
 use Rattle.std.proofs.ByRecursion.{All-weaker}
 use Rattle.std.proofs.lemmas.Grind.{common_steps}
 use Rattle.std.proofs.lemmas.List.{append-nil, append_assoc}
-use Rattle.std.proofs.lemmas.Bool.{eqb-false, or_parts}
 use Rattle.dimacs.specs.declared.document.Problem as the_problem
 use Rattle.dimacs.specs.declared.document.Node as the_node
 use Rattle.dimacs.specs.declared.document.Arc as the_arc
@@ -69,7 +68,7 @@ module _ (known : ℕ → Bool) (p : the_problem.Problem) (short : p.arcs ≤ 20
 
 -- a node that is not among these and one more is not among these, and is not that one
 fresh_from : (ns : List the_node.Node) (m : NodeLine) (id : ℕ) → taken (ns ++ (node_of m ∷ [])) id ≡ false → (taken ns id ≡ false) × (m.id ≡ id → ⊥)
-fresh_from ns m id e = let parts = or_parts (taken ns id) (eqb m.id id) (sym (taken_push ns (node_of m) id) ∙ e) in (parts.0, eqb-false m.id id parts.1)
+fresh_from ns m id e = (grind (arith, common_steps, taken_push ns (node_of m) id), λ same. grind (arith, common_steps, taken_push ns (node_of m) id))
 
 silent_nodes : (ws : List (List ℕ)) (rest : Rows) (nodes : List NodeLine) (arcs : List ArcLine) → Silent ws → SayNodes rest nodes arcs → SayNodes (ws ∷ rest) nodes arcs
 silent_nodes ws [] [] arcs quiet say = silent_arcs ws [] arcs quiet say

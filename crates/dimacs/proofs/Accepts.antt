@@ -1,8 +1,8 @@
 -- A document within the limits is taken, line by line.
-use Rattle.std.proofs.Common.{◌≡◌, ℕ, ◌+◌, ◌<◌, Bool, true, false, cond, eqb, ltb, List, [], ◌∷◌, ◌++◌, map, length, None, Ok, sym, refl, ap, ◌∙◌, inl, inr, arith}
+use Rattle.std.proofs.Common.{◌≡◌, ℕ, ◌+◌, ◌<◌, Bool, true, false, cond, ltb, List, [], ◌∷◌, ◌++◌, map, length, None, Ok, sym, refl, ap, ◌∙◌, inl, inr, arith}
+use Rattle.std.proofs.lemmas.Grind.{common_steps}
 use Rattle.std.specs.List.{AllByRecursion}
 use Rattle.std.proofs.lemmas.List.{append-nil, append_assoc}
-use Rattle.std.proofs.lemmas.Bool.{ne_eqb, or_from}
 use Rattle.dimacs.specs.Asking.{outcome}
 use Rattle.dimacs.specs.declared.document.Problem as the_problem
 use Rattle.dimacs.specs.declared.document.Node as the_node
@@ -17,7 +17,7 @@ use Rattle.dimacs.proofs.Sayings.{arc_is_said, node_is_said, problem_is_said}
 all_fresh : (ns : List the_node.Node) (m : NodeLine) (ls : List NodeLine) → AllByRecursion (λ l. taken ns l.id ≡ false) ls → AllByRecursion (λ l. m.id ≡ l.id → ⊥) ls → AllByRecursion (λ l. taken (ns ++ (node_of m ∷ [])) l.id ≡ false) ls
 all_fresh ns m [] free other = tt
 all_fresh ns m (l ∷ ls) free other =
-    (taken_push ns (node_of m) l.id ∙ or_from (taken ns l.id) (eqb m.id l.id) free.0 (ne_eqb m.id l.id other.0), all_fresh ns m ls free.1 other.1)
+    (grind (arith, common_steps, taken_push ns (node_of m) l.id, free.0, other.0), all_fresh ns m ls free.1 other.1)
 
 none_taken : (ls : List NodeLine) → AllByRecursion (λ l. taken [] l.id ≡ false) ls
 none_taken [] = tt

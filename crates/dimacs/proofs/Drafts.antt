@@ -1,15 +1,12 @@
 -- A draft that has its problem, and what one more line makes of it.
-use Rattle.std.proofs.Common.{◌≡◌, ℕ, suc, ◌+◌, ◌<◌, Bool, true, false, cond, ◌||◌, eqb, ltb, List, [], ◌∷◌, ◌++◌, Some, None, Ok, Err, Option, Result, refl, ap, arith}
+use Rattle.std.proofs.Common.{◌≡◌, ℕ, suc, ◌+◌, ◌<◌, Bool, cond, ◌||◌, eqb, ltb, List, [], ◌∷◌, ◌++◌, Some, None, Ok, Option, Result, refl, ap, arith}
 use Rattle.std.proofs.lemmas.Grind.{common_steps}
-use Rattle.std.proofs.lemmas.Bool.{eqb-true}
 use Rattle.dimacs.specs.Asking.{outcome}
 use Rattle.dimacs.specs.declared.document.Problem as the_problem
 use Rattle.dimacs.specs.declared.document.Node as the_node
 use Rattle.dimacs.specs.declared.document.Arc as the_arc
-use Rattle.reader.specs.declared.refusal.Fault.TheVariants.{ArcCount}
 use Rattle.reader.specs.declared.refusal.Refusal.{Refusal}
 use Rattle.dimacs.specs.Layout.{Silent}
-use Rattle.reader.specs.Refusals.{refused}
 use Rattle.dimacs.specs.Scan.{Draft, finished, row_entered, taken, then}
 use Rattle.dimacs.proofs.Sayings.{never}
 
@@ -38,11 +35,7 @@ taken_push (n ∷ ns) m id = grind (arith, common_steps, taken_push ns m id)
 module _ (p : the_problem.Problem) (ns : List the_node.Node) where
   -- at the end the arcs are as many as the problem says
   pub finished_is : (line : ℕ) (xs : List the_arc.Arc) (k : ℕ) (e : Draft) → finished line (draft p ns xs k) ≡ Ok e → (p.arcs ≡ k) × (e ≡ draft p ns xs k)
-  finished_is line xs k e is = go (eqb p.arcs k) refl is
-    where
-      go : (t : Bool) → eqb p.arcs k ≡ t → cond t (Ok (draft p ns xs k)) (Err (refused ArcCount line 0)) ≡ Ok e → (p.arcs ≡ k) × (e ≡ draft p ns xs k)
-      go true same is = (eqb-true p.arcs k same, cc)
-      go false same is = absurd (never is)
+  finished_is line xs k e is = (grind (arith, common_steps), grind (arith, common_steps))
 
   pub finishes : (line : ℕ) (xs : List the_arc.Arc) (k : ℕ) → p.arcs ≡ k → finished line (draft p ns xs k) ≡ Ok (draft p ns xs k)
   finishes line xs k is = grind (arith, common_steps)

@@ -1,6 +1,7 @@
 -- A load accepts a file exactly when it says a document within the limits.
-use Rattle.std.proofs.Common.{◌≡◌, ℕ, ◌-◌, ◌≤◌, Bool, true, false, cond, eqb, leb, List, [], ◌∷◌, map, length, get_or, Ok, Err, sym, refl, ap, ◌∙◌, subst, arith}
-use Rattle.std.proofs.lemmas.Bool.{and_parts, and_from, cond-true, eq-eqb, eqb-true, le-leb, leb-true}
+use Rattle.std.proofs.Common.{◌≡◌, ℕ, ◌-◌, ◌≤◌, Bool, true, List, [], ◌∷◌, map, length, get_or, Ok, Err, sym, refl, ap, ◌∙◌, subst, arith}
+use Rattle.std.proofs.lemmas.Grind.{common_steps}
+use Rattle.std.proofs.lemmas.Bool.{cond-true}
 use Rattle.reader.specs.declared.refusal.Fault.TheVariants.{FileForm}
 use Rattle.dimacs.specs.Layout.{Document, Exact, LawfulFile, Reads, Row, Say, text, words_of}
 use Rattle.reader.specs.Refusals.{refused}
@@ -9,7 +10,6 @@ use Rattle.reader.specs.Words.{rows}
 use Rattle.dimacs.proofs.Accepted.{Heard, heard}
 use Rattle.dimacs.proofs.Accepts.{document_taken}
 use Rattle.dimacs.proofs.Layouts.{Laid, laid, rows_text, text_ends}
-use Rattle.dimacs.proofs.Sayings.{never}
 
 module _ (known : ℕ → Bool) where
   -- what a scan heard, said by the file's bytes
@@ -25,13 +25,11 @@ module _ (known : ℕ → Bool) where
   lines_of (b ∷ bs) ends = laid b bs ends
 
   accepted_is : (bs : List ℕ) (d : Draft) → scanned known bs ≡ Ok d → (doc : Document) × LawfulFile known bs doc × Reads d doc
-  accepted_is bs d e = go (well_formed bs) refl e
-    where
-      go : (t : Bool) → well_formed bs ≡ t → cond t (scanned_from known 0 nothing (rows bs)) (Err (refused FileForm 0 0)) ≡ Ok d → (doc : Document) × LawfulFile known bs doc × Reads d doc
-      go true form e =
-          let parts = and_parts (leb (length bs) 65536) (eqb (get_or bs (length bs - 1) 0) 10) form in
-          lawful bs d (leb-true (length bs) 65536 parts.0) (lines_of bs (eqb-true (get_or bs (length bs - 1) 0) 10 parts.1)) (heard known d (rows bs) 0 e)
-      go false form e = absurd (never e)
+  accepted_is bs d e =
+      let size : length bs ≤ 65536 = grind (arith, common_steps) in
+      let ends : get_or bs (length bs - 1) 0 ≡ 10 = grind (arith, common_steps) in
+      let says : scanned_from known 0 nothing (rows bs) ≡ Ok d = grind (arith, common_steps) in
+      lawful bs d size (lines_of bs ends) (heard known d (rows bs) 0 says)
 
   -- lines that say something are a file that ends with byte 10
   ends_of : (rs : List Row) (doc : Document) → Say (map words_of rs) doc → get_or (text rs) (length (text rs) - 1) 0 ≡ 10
@@ -42,7 +40,8 @@ module _ (known : ℕ → Bool) where
   accepts_it bs doc l =
       let f = l.follows in
       let ends = ap (λ s. get_or s (length s - 1) 0) (sym f.written) ∙ ends_of f.rows doc f.says in
-      let form = and_from (leb (length bs) 65536) (eqb (get_or bs (length bs - 1) 0) 10) (le-leb (length bs) 65536 l.size) (eq-eqb (get_or bs (length bs - 1) 0) 10 ends) in
+      let size = l.size in
+      let form : well_formed bs ≡ true = grind (arith, common_steps) in
       let read = ap rows (sym f.written) ∙ rows_text f.rows f.formed in
       let taken = document_taken known doc l.within (map words_of f.rows) 0 f.says in
       (_, cond-true (well_formed bs) (scanned_from known 0 nothing (rows bs)) (Err (refused FileForm 0 0)) form ∙ ap (scanned_from known 0 nothing) read ∙ taken, record { problem = refl; nodes = refl; arcs = refl; lines = refl })

@@ -1,5 +1,6 @@
 -- Loads make of a file what its document says.
 use Rattle.std.proofs.Common.{◌≡◌, ℕ, Bool, true, false, cond, leb, List, [], ◌∷◌, map, Ok, Err, Result, sym, refl, ap, ◌∙◌, subst, arith, le-leb}
+use Rattle.std.proofs.lemmas.Grind.{common_steps}
 use Rattle.std.specs.List.{AllByRecursion}
 use Rattle.std.proofs.lemmas.Bool.{and_from, cond-true}
 use Rattle.ruler.specs.Cells.{knows}
@@ -17,12 +18,13 @@ use Rattle.dimacs.specs.Loads.{Draws, LoadsMap, LoadsSheet, MapAfter, NetAfter, 
 use Rattle.reader.specs.Refusals.{refused}
 use Rattle.dimacs.specs.Scan.{Draft, scanned, sites_of}
 use Rattle.dimacs.proofs.Exactness.{exact}
+use Rattle.dimacs.proofs.Sayings.{never}
 
 abbrev chart : ℕ → List the_map.Leg → Chart
 chart n legs = record { sites = n; ring = 4000000; legs = legs }
 
 known_site : (doc : Document) (id : ℕ) → OnSite doc id → knows doc.sites id ≡ true
-known_site doc id s = and_from (leb 1 id) (leb id doc.sites) (le-leb 1 id s.low) (le-leb id doc.sites s.high)
+known_site doc id s = grind (arith, common_steps)
 
 -- an arc within the limits is laid
 one_leg : (doc : Document) (legs : List the_map.Leg) (a : ArcLine) → ArcWithin doc a → fed (chart doc.sites legs) (Leg a.from a.to a.cost) ≡ chart doc.sites (the_map.leg_of a.from a.to a.cost ∷ legs)
@@ -60,10 +62,7 @@ module _ {P : Type 0} (s : Result Draft Refusal) where
     where
       by : (r : Result Draft Refusal) → s ≡ r → done r ≡ Ok tt → P
       by (Ok d) is e = go d is
-      by (Err x) is e = absurd (clash e)
-        where
-          clash : done (Err x) ≡ Ok tt → ⊥
-          clash e = let z : ◌≡◌ {A = ℕ} 0 1 = cc in omega arith
+      by (Err x) is e = absurd (never e)
 
 pub loads_map : (bs : List ℕ) (r : Result (Unit {0}) Refusal) (before after : Map) → r ≡ done (scanned anywhere bs) → MapAfter (scanned anywhere bs) before after → LoadsMap bs r after
 loads_map bs r before after answer made =
@@ -90,7 +89,4 @@ loads_sheet m bs r before after answer made =
   where
     scanned_is : (b : Bool) (d : Draft) → cond b (scanned m.known bs) (Err (refused SheetInUse 0 0)) ≡ Ok d → scanned m.known bs ≡ Ok d
     scanned_is true d e = e
-    scanned_is false d e = absurd (clash e)
-      where
-        clash : ◌≡◌ {A = Result Draft Refusal} (Err (refused SheetInUse 0 0)) (Ok d) → ⊥
-        clash e = let z : ◌≡◌ {A = ℕ} 0 1 = cc in omega arith
+    scanned_is false d e = absurd (never e)
