@@ -1,11 +1,12 @@
 -- A text of well-formed lines is read as their words, and every text that ends its last line is such a text.
-use Rattle.std.proofs.Common.{◌≡◌, ℕ, zero, suc, ◌-◌, ◌<◌, ◌≤◌, true, cond, eqb, List, [], ◌∷◌, ◌++◌, map, length, get_or, replicate, sym, refl, ap, ◌∙◌, subst, inl, inr, arith, lit<}
+use Rattle.std.proofs.Common.{◌≡◌, ℕ, zero, suc, ◌-◌, ◌<◌, ◌≤◌, true, eqb, List, [], ◌∷◌, ◌++◌, map, length, get_or, replicate, sym, refl, ap, ◌∙◌, subst, inl, inr, arith, lit<}
+use Rattle.std.proofs.lemmas.Grind.{common_steps}
 use Rattle.std.specs.List.{AllByRecursion}
 use Rattle.std.proofs.ByRecursion.{All-append, All-weaker}
-use Rattle.std.proofs.lemmas.List.{append-nil, length-append, get_or-append_right}
-use Rattle.std.proofs.lemmas.Bool.{cases_eq, ne_eqb}
+use Rattle.std.proofs.lemmas.List.{append-nil, length-append}
+use Rattle.std.proofs.lemmas.Bool.{cases_eq}
 use Rattle.dimacs.specs.Layout.{Apart, Formed, IsWord, Row, Spaced, spelled, text, words_of}
-use Rattle.reader.specs.Words.{kept, onto, pieces, rows, words}
+use Rattle.reader.specs.Words.{kept, pieces, rows, words}
 
 -- bytes without a stop
 abbrev Without : ℕ → List ℕ → Type 0
@@ -20,15 +21,13 @@ unended w is = All-weaker (λ b. (b ≡ 32 → ⊥) × (b ≡ 10 → ⊥)) (λ b
 
 -- a piece ends at the next stop
 piece_stopped : (stop : ℕ) (p rest : List ℕ) → Without stop p → eqb stop stop ≡ true → pieces stop (p ++ (stop ∷ rest)) ≡ p ∷ pieces stop rest
-piece_stopped stop [] rest un is = ap (λ t. cond t ([] ∷ pieces stop rest) (onto stop (pieces stop rest))) is
-piece_stopped stop (b ∷ p) rest un is =
-    ap (λ t. cond t ([] ∷ pieces stop (p ++ (stop ∷ rest))) (onto b (pieces stop (p ++ (stop ∷ rest))))) (ne_eqb b stop un.0) ∙ ap (onto b) (piece_stopped stop p rest un.1 is)
+piece_stopped stop [] rest un is = grind (arith, common_steps)
+piece_stopped stop (b ∷ p) rest un is = grind (arith, common_steps, un.0, piece_stopped stop p rest un.1 is)
 
 -- or at the end
 piece_last : (stop b : ℕ) (p : List ℕ) → Without stop (b ∷ p) → pieces stop (b ∷ p) ≡ (b ∷ p) ∷ []
-piece_last stop b [] un = ap (λ t. cond t ([] ∷ []) ((b ∷ []) ∷ [])) (ne_eqb b stop un.0)
-piece_last stop b (c ∷ p) un =
-    ap (λ t. cond t ([] ∷ pieces stop (c ∷ p)) (onto b (pieces stop (c ∷ p)))) (ne_eqb b stop un.0) ∙ ap (onto b) (piece_last stop c p un.1)
+piece_last stop b [] un = grind (arith, common_steps, un.0)
+piece_last stop b (c ∷ p) un = grind (arith, common_steps, un.0, piece_last stop c p un.1)
 
 -- spaces in front count for nothing
 words_spaced : (n : ℕ) (rest : List ℕ) → words (replicate n 32 ++ rest) ≡ words rest
@@ -84,10 +83,7 @@ rows_text (r ∷ rs) all =
 
 -- the last byte of a text is that of its last part
 last_after : (xs ys : List ℕ) → 0 < length ys → get_or (xs ++ ys) (length (xs ++ ys) - 1) 0 ≡ get_or ys (length ys - 1) 0
-last_after xs ys some =
-    let long = length-append xs ys in
-    let place : length (xs ++ ys) - 1 - length xs ≡ length ys - 1 = omega arith in
-    get_or-append_right xs ys (length xs) (length (xs ++ ys) - 1) 0 refl (omega arith) ∙ ap (λ i. get_or ys i 0) place
+last_after xs ys some = grind (arith, common_steps)
 
 -- lines end with byte 10
 pub text_ends : (r : Row) (rs : List Row) → get_or (text (r ∷ rs)) (length (text (r ∷ rs)) - 1) 0 ≡ 10

@@ -1,9 +1,7 @@
 -- Loads make of a file what its document says.
-use Rattle.std.proofs.Common.{◌≡◌, ℕ, Bool, true, false, cond, leb, List, [], ◌∷◌, map, Ok, Err, Result, sym, refl, ap, ◌∙◌, subst, arith, le-leb}
+use Rattle.std.proofs.Common.{◌≡◌, ℕ, Bool, true, false, cond, List, [], ◌∷◌, map, Ok, Err, Result, sym, refl, ap, ◌∙◌, subst, arith}
 use Rattle.std.proofs.lemmas.Grind.{common_steps}
 use Rattle.std.specs.List.{AllByRecursion}
-use Rattle.std.proofs.lemmas.Bool.{and_from, cond-true}
-use Rattle.ruler.specs.Cells.{knows}
 use Rattle.ruler.specs.Chart.{Chart, Shows, blank, course, fed}
 use Rattle.ruler.specs.Map as the_map
 use Rattle.ruler.specs.Meaning.{Meaning}
@@ -13,7 +11,7 @@ use Rattle.sheet.specs.Questions.{bare}
 use Rattle.sheet.specs.declared.net.Net.{Net}
 use Rattle.reader.specs.declared.refusal.Fault.TheVariants.{SheetInUse}
 use Rattle.reader.specs.declared.refusal.Refusal.{Refusal}
-use Rattle.dimacs.specs.Layout.{ArcLine, ArcWithin, Document, OnSite, Reads, Within, arc_of}
+use Rattle.dimacs.specs.Layout.{ArcLine, ArcWithin, Document, Reads, Within, arc_of}
 use Rattle.dimacs.specs.Loads.{Draws, LoadsMap, LoadsSheet, MapAfter, NetAfter, Seated, anywhere, done, laid_on, legs_of, seats_of, sheet_scanned, steps_of}
 use Rattle.reader.specs.Refusals.{refused}
 use Rattle.dimacs.specs.Scan.{Draft, scanned, sites_of}
@@ -23,17 +21,13 @@ use Rattle.dimacs.proofs.Sayings.{never}
 abbrev chart : ℕ → List the_map.Leg → Chart
 chart n legs = record { sites = n; ring = 4000000; legs = legs }
 
-known_site : (doc : Document) (id : ℕ) → OnSite doc id → knows doc.sites id ≡ true
-known_site doc id s = grind (arith, common_steps)
-
 -- an arc within the limits is laid
 one_leg : (doc : Document) (legs : List the_map.Leg) (a : ArcLine) → ArcWithin doc a → fed (chart doc.sites legs) (Leg a.from a.to a.cost) ≡ chart doc.sites (the_map.leg_of a.from a.to a.cost ∷ legs)
 one_leg doc legs a w =
-    let n = doc.sites in
-    let ends = and_from (knows n a.from) (knows n a.to) (known_site doc a.from w.from) (known_site doc a.to w.to) in
-    let size = le-leb a.cost 4000000 w.cost in
-    let passes : the_map.leg_outcome n a.from a.to a.cost ≡ Ok tt = cond-true _ _ _ ends ∙ cond-true _ _ _ size in
-    ap (λ r. elim r as (λ _. Chart) [ Ok x ↦ chart n (the_map.leg_of a.from a.to a.cost ∷ legs) | Err refusal ↦ chart n legs ]) passes
+    let from = w.from in
+    let to = w.to in
+    let cost = w.cost in
+    grind (arith, common_steps)
 
 all_legs : (doc : Document) (legs : List the_map.Leg) (arcs : List ArcLine) → AllByRecursion (ArcWithin doc) arcs → course (chart doc.sites legs) (legs_of (map arc_of arcs)) ≡ chart doc.sites (laid_on legs arcs)
 all_legs doc legs [] w = refl
@@ -44,9 +38,9 @@ all_legs doc legs (a ∷ arcs) w =
 module _ (known : ℕ → Bool) (doc : Document) (within : Within known doc) (d : Draft) (reads : Reads d doc) where
   begins : fed blank (Begin doc.sites 4000000) ≡ chart doc.sites []
   begins =
-      let range = and_from (leb 1 doc.sites) (leb doc.sites 64) (le-leb 1 doc.sites within.some) (le-leb doc.sites 64 within.few) in
-      let passes : the_map.begin_outcome doc.sites 4000000 ≡ Ok tt = cond-true _ _ _ range in
-      ap (λ r. elim r as (λ _. Chart) [ Ok x ↦ chart doc.sites [] | Err refusal ↦ blank ]) passes
+      let some = within.some in
+      let few = within.few in
+      grind (arith, common_steps)
 
   pub charted : course blank (steps_of d) ≡ chart doc.sites (laid_on [] doc.arcs)
   charted =
