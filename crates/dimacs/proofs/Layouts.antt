@@ -1,5 +1,5 @@
 -- A text of well-formed lines is read as their words, and every text that ends its last line is such a text.
-use Rattle.std.proofs.Common.{◌≡◌, ℕ, zero, suc, ◌-◌, ◌<◌, ◌≤◌, true, eqb, List, [], ◌∷◌, ◌++◌, map, length, get_or, replicate, sym, refl, ap, ◌∙◌, subst, inl, inr, arith, lit<}
+use Rattle.std.proofs.Common.{◌≡◌, ℕ, zero, suc, ◌-◌, ◌<◌, ◌≤◌, List, [], ◌∷◌, ◌++◌, map, length, get_or, replicate, sym, refl, ap, ◌∙◌, subst, inl, inr, arith, lit<}
 use Rattle.std.proofs.lemmas.Grind.{common_steps}
 use Rattle.std.specs.List.{AllByRecursion}
 use Rattle.std.proofs.ByRecursion.{All-append, All-weaker}
@@ -20,9 +20,9 @@ unended : (w : List ℕ) → IsWord w → Without 10 w
 unended w is = All-weaker (λ b. (b ≡ 32 → ⊥) × (b ≡ 10 → ⊥)) (λ b. b ≡ 10 → ⊥) (λ b both. both.1) w is.unbroken
 
 -- a piece ends at the next stop
-piece_stopped : (stop : ℕ) (p rest : List ℕ) → Without stop p → eqb stop stop ≡ true → pieces stop (p ++ (stop ∷ rest)) ≡ p ∷ pieces stop rest
-piece_stopped stop [] rest un is = grind (arith, common_steps)
-piece_stopped stop (b ∷ p) rest un is = grind (arith, common_steps, un.0, piece_stopped stop p rest un.1 is)
+piece_stopped : (stop : ℕ) (p rest : List ℕ) → Without stop p → pieces stop (p ++ (stop ∷ rest)) ≡ p ∷ pieces stop rest
+piece_stopped stop [] rest un = grind (arith, common_steps)
+piece_stopped stop (b ∷ p) rest un = grind (arith, common_steps, un.0, piece_stopped stop p rest un.1)
 
 -- or at the end
 piece_last : (stop b : ℕ) (p : List ℕ) → Without stop (b ∷ p) → pieces stop (b ∷ p) ≡ (b ∷ p) ∷ []
@@ -44,7 +44,7 @@ words_word [] rest is broken = let some = is.some in absurd (omega arith)
 words_word (b ∷ w) [] is broken =
     ap words (append-nil (b ∷ w)) ∙ ap kept (piece_last 32 b w (unspaced (b ∷ w) is))
 words_word (b ∷ w) (c ∷ rest) is broken =
-    ap (λ x. words ((b ∷ w) ++ (x ∷ rest))) broken ∙ ap kept (piece_stopped 32 (b ∷ w) rest (unspaced (b ∷ w) is) refl) ∙ ap (λ x. (b ∷ w) ∷ words (x ∷ rest)) (sym broken)
+    ap (λ x. words ((b ∷ w) ++ (x ∷ rest))) broken ∙ ap kept (piece_stopped 32 (b ∷ w) rest (unspaced (b ∷ w) is)) ∙ ap (λ x. (b ∷ w) ∷ words (x ∷ rest)) (sym broken)
 
 -- words that stand apart follow a word
 broken_spelled : (ss : List Spaced) (end : ℕ) → AllByRecursion (λ s. 1 ≤ s.gap) ss → Broken (spelled ss end)
@@ -79,7 +79,7 @@ spelled_unended (s ∷ ss) end each =
 pub rows_text : (rs : List Row) → AllByRecursion Formed rs → rows (text rs) ≡ map words_of rs
 rows_text [] all = refl
 rows_text (r ∷ rs) all =
-    ap (map words) (piece_stopped 10 (spelled r.words r.end) (text rs) (spelled_unended r.words r.end all.0.each) refl) ∙ ap (λ l. l ∷ rows (text rs)) (words_spelled r.words r.end all.0.each all.0.apart) ∙ ap (λ l. words_of r ∷ l) (rows_text rs all.1)
+    ap (map words) (piece_stopped 10 (spelled r.words r.end) (text rs) (spelled_unended r.words r.end all.0.each)) ∙ ap (λ l. l ∷ rows (text rs)) (words_spelled r.words r.end all.0.each all.0.apart) ∙ ap (λ l. words_of r ∷ l) (rows_text rs all.1)
 
 -- the last byte of a text is that of its last part
 last_after : (xs ys : List ℕ) → 0 < length ys → get_or (xs ++ ys) (length (xs ++ ys) - 1) 0 ≡ get_or ys (length ys - 1) 0
