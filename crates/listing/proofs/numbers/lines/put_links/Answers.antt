@@ -1,16 +1,8 @@
-use Rattle.std.proofs.Common.{ℕ, List, sym, refl, subst, arith}
+use Rattle.std.proofs.Common.{ℕ, List, sym, subst, arith}
 use Rattle.listing.specs.Listing.{Put}
 use Rattle.listing.proofs.Placing.{put_none, put_then}
 use Rattle.listing.proofs.Texts.{length_lines_more, wire_lines_more, wire_lines_none}
 use Rattle.listing.proofs.numbers.lines.put_links.Goals as goal
-
-pub loop-link-init : goal.loop-link-init
-loop-link-init c = (refl, λ o n p. p)
-
-pub put_link-at-requires : goal.put_link-at-requires
-put_link-at-requires c =
-    let more = length_lines_more c.args.links.now c.loop-link.link-index (omega arith) in
-    omega arith
 
 pub loop-link-preserved : goal.loop-link-preserved
 loop-link-preserved c =

@@ -1,31 +1,9 @@
-use Rattle.std.proofs.Common.{ℕ, List, length, decimal, ap, ◌∙◌, subst, arith, length-append}
-use Rattle.reader.specs.Refusals.{number_of}
+use Rattle.std.proofs.Common.{ℕ, List, ap, ◌∙◌, subst, arith}
 use Rattle.listing.specs.Files.{refusal_line}
 use Rattle.listing.specs.Listing.{Put}
 use Rattle.listing.proofs.Placing.{put_then}
-use Rattle.listing.proofs.Texts.{length_refusal, refusal_parts}
+use Rattle.listing.proofs.Texts.{refusal_parts}
 use Rattle.listing.proofs.numbers.replies.put_refusal.Goals as goal
-
-pub put_word-second-requires : goal.put_word-second-requires
-put_word-second-requires c =
-    let e = c.args.refusal.now in
-    let number = ap (λ n. length (decimal n)) (c.from.ensures ∙ c.number.ensures) in
-    omega (arith, length_refusal (number_of e.fault) e.line e.word, number)
-
-pub put_word-third-requires : goal.put_word-third-requires
-put_word-third-requires c =
-    let e = c.args.refusal.now in
-    let number = ap (λ n. length (decimal n)) (c.from.ensures ∙ c.number.ensures) in
-    let second = simp length-append at c.put_word-second.ensures.end in
-    omega (arith, length_refusal (number_of e.fault) e.line e.word, number)
-
-pub put_last-requires : goal.put_last-requires
-put_last-requires c =
-    let e = c.args.refusal.now in
-    let number = ap (λ n. length (decimal n)) (c.from.ensures ∙ c.number.ensures) in
-    let second = simp length-append at c.put_word-second.ensures.end in
-    let third = simp length-append at c.put_word-third.ensures.end in
-    omega (arith, length_refusal (number_of e.fault) e.line e.word, number)
 
 pub returns : goal.returns
 returns c =
