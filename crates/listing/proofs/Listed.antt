@@ -1,12 +1,11 @@
 -- What a listing that fits answers, leaves and reads back as.
-use Rattle.std.proofs.Common.{◌≡◌, ℕ, ◌^◌, ◌<◌, ◌≤◌, Bool, true, false, cond, ltb, List, ◌++◌, length, take, drop, IfOk, Some, Ok, Err, Option, Result, sym, refl, ap, ◌∙◌, subst, zero-add, ltb-false, le-ltb}
+use Rattle.std.proofs.Common.{◌≡◌, ℕ, ◌^◌, ◌<◌, ◌≤◌, false, cond, ltb, List, ◌++◌, length, take, drop, Some, Ok, Err, Option, sym, ap, ◌∙◌, zero-add, le-ltb}
 use Rattle.std.specs.List.{AllByRecursion}
 use Rattle.std.proofs.lemmas.List.{take_at}
 use Rattle.planner.specs.declared.plan.Plan.{Plan}
 use Rattle.planner.specs.Planned.{links_of}
-use Rattle.listing.specs.declared.refusal.Refusal.{Refusal}
 use Rattle.listing.specs.declared.refusal.Refusal.TheVariants.{TextTooLong}
-use Rattle.listing.specs.Listing.{Put, Sized, filled, fitted, left_in, listed, text_of}
+use Rattle.listing.specs.Listing.{Put, Sized, filled, fitted, left_in, text_of}
 use Rattle.listing.specs.Reading.{read_back, told}
 use Rattle.listing.proofs.Reading.{listing_read}
 
@@ -27,17 +26,7 @@ module _ (text held holds : List ℕ) (n : ℕ) (fits : length text ≤ length h
   pub put_filled : holds ≡ filled text held
   put_filled = begins ∙ ap (λ b. cond b held (text ++ drop (length text) held)) (sym room)
 
--- what is answered lies within the buffer
-pub fitted_within : (text held : List ℕ) (r : Result ℕ Refusal) → r ≡ fitted text (length held) → IfOk r (λ n. n ≤ length held)
-fitted_within text held r e = let P : Result ℕ Refusal → Type 0 = λ x. IfOk x (λ n. n ≤ length held) in subst P (sym e) (go (ltb (length held) (length text)) refl)
-  where
-    go : (b : Bool) → ltb (length held) (length text) ≡ b → IfOk (cond b (Err TextTooLong) (Ok (length text))) (λ n. n ≤ length held)
-    go true is = tt
-    go false is = ltb-false (length held) (length text) is
-
 module _ (o : Option Plan) (p : Plan) (held holds : List ℕ) (n : ℕ) (is : Some p ≡ o) (fits : length (text_of p) ≤ length held) (put : Put held 0 (text_of p) holds n) where
-  pub list_answer : Ok n ≡ listed o (length held)
-  list_answer = put_fitted (text_of p) held holds n fits put ∙ ap (λ plan. listed plan (length held)) is
 
   pub list_after : holds ≡ left_in o held
   list_after = put_filled (text_of p) held holds n fits put ∙ ap (λ plan. left_in plan held) is

@@ -1,17 +1,13 @@
 -- Texts placed one after another are placed as one.
-use Rattle.std.proofs.Common.{◌≡◌, ℕ, ◌+◌, ◌<◌, ◌≤◌, List, [], ◌∷◌, ◌++◌, length, set, sym, refl, ap, ◌∙◌, add-zero, add-one, arith, length-append}
+use Rattle.std.proofs.Common.{◌≡◌, ℕ, ◌+◌, ◌≤◌, List, [], ◌++◌, length, sym, refl, ap, ◌∙◌, add-zero, arith, length-append}
 use lib.Seq.{paste}
 use Rattle.std.proofs.lemmas.List.Edits.{paste_all, paste-paste}
-use Rattle.std.proofs.lemmas.List.{set_split, take-append-drop}
+use Rattle.std.proofs.lemmas.List.{take-append-drop}
 use Rattle.listing.specs.Listing.{placed, Put}
 
 -- nothing
 pub put_none : (held : List ℕ) (k : ℕ) → Put held k [] held k
 put_none held k = record { after = rw (add-zero, take-append-drop); end = sym (add-zero k) }
-
--- one byte
-pub put_one : (held : List ℕ) (k b : ℕ) → k < length held → Put held k (b ∷ []) (set held k b) (k + 1)
-put_one held k b h = record { after = rw (set_split held k b h, ← add-one k); end = refl }
 
 placed_placed : (held s t : List ℕ) (k : ℕ) → k ≤ length held → placed (placed held k s) (k + length s) t ≡ placed held k (s ++ t)
 placed_placed held s t k h =

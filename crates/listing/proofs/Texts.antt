@@ -1,14 +1,10 @@
 -- The lines of a listing, their lengths and their parts.
-use Rattle.std.proofs.Common.{◌≡◌, ℕ, ◌+◌, ◌<◌, ◌≤◌, List, [], ◌∷◌, ◌++◌, length, get_or, drop, codes, decimal, sym, ap, ◌∙◌, subst, append_assoc, arith, length-append}
-use Rattle.std.specs.List.{AllByRecursion}
-use Rattle.std.proofs.lemmas.List.{at_drop_more, at_drop_all, drop_more, drop_all}
+use Rattle.std.proofs.Common.{◌≡◌, ℕ, ◌+◌, ◌<◌, ◌≤◌, List, [], ◌∷◌, ◌++◌, length, get_or, drop, codes, decimal, ap, ◌∙◌, append_assoc, length-append}
+use Rattle.std.proofs.lemmas.List.{at_drop_more, at_drop_all}
 use Rattle.planner.specs.declared.plan.Link.{Link}
 use Rattle.sheet.specs.Answers.{no_link}
 use Rattle.listing.specs.Files.{refusal_line}
-use Rattle.listing.specs.Listing.{Sized, line_of, area_words, wire_line, wire_lines}
-
-pub length_area_line : (a : ℕ) → length (line_of (area_words a)) ≡ length (decimal a) + 3
-length_area_line a = simp length-append (omega arith)
+use Rattle.listing.specs.Listing.{wire_line, wire_lines}
 
 -- a wire's line as it is put: its letter, and three numbers, each with its stop
 abbrev parts : ℕ × ℕ × ℕ → List ℕ
@@ -21,9 +17,6 @@ module _ (l : Link) (n : ℕ × ℕ × ℕ) (order : n ≡ (l.from, l.to, l.curr
   pub wire_line_parts : parts n ≡ wire_line l
   wire_line_parts = ap parts order ∙ parts_are l
 
-  pub length_wire_line : length (wire_line l) ≡ 5 + length (decimal n.0) + length (decimal n.1) + length (decimal n.2)
-  length_wire_line = rw order (simp length-append (omega arith))
-
 -- what is left of the wires and of their lines, one wire on and at the end
 module _ (ls : List Link) (i : ℕ) where
   pub wire_lines_more : i < length ls → wire_lines (drop i ls) ≡ wire_line (get_or ls i no_link) ++ wire_lines (drop (i + 1) ls)
@@ -34,16 +27,6 @@ module _ (ls : List Link) (i : ℕ) where
 
   pub wire_lines_none : length ls ≤ i → wire_lines (drop i ls) ≡ []
   wire_lines_none h = at_drop_all wire_lines ls i h
-
-  pub sized_more : i < length ls → Sized (get_or ls i no_link) → AllByRecursion Sized (drop (i + 1) ls) → AllByRecursion Sized (drop i ls)
-  sized_more h one more = subst (AllByRecursion Sized) (sym (drop_more ls i no_link h)) (one, more)
-
-  pub sized_none : length ls ≤ i → AllByRecursion Sized (drop i ls)
-  sized_none h = subst (AllByRecursion Sized) (sym (drop_all i ls h)) tt
-
--- a refusal's line as it is put
-pub length_refusal : (n l w : ℕ) → length (refusal_line n l w) ≡ 13 + length (decimal n) + length (decimal l) + length (decimal w)
-length_refusal n l w = simp length-append (omega arith)
 
 pub refusal_parts : (n l w : ℕ) → ((codes "c refused " ++ (decimal n ++ 32 ∷ [])) ++ (decimal l ++ 32 ∷ [])) ++ (decimal w ++ 10 ∷ []) ≡ refusal_line n l w
 refusal_parts n l w = simp append_assoc
