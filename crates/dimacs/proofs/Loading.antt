@@ -1,19 +1,14 @@
 -- Loads make of a file what its document says.
-use Rattle.std.proofs.Common.{◌≡◌, ℕ, Bool, true, false, cond, List, [], ◌∷◌, map, Ok, Err, Result, sym, refl, ap, ◌∙◌, subst, arith}
+use Rattle.std.proofs.Common.{◌≡◌, ℕ, Bool, List, [], ◌∷◌, map, Ok, Err, Result, sym, refl, ap, ◌∙◌, subst, arith}
 use Rattle.std.proofs.lemmas.Grind.{common_steps}
 use Rattle.std.specs.List.{AllByRecursion}
 use Rattle.ruler.specs.Chart.{Chart, Shows, blank, course, fed}
 use Rattle.ruler.specs.Map as the_map
-use Rattle.ruler.specs.Meaning.{Meaning}
 use Rattle.ruler.specs.declared.map.Map.{Map}
 use Rattle.ruler.specs.declared.map.table.run.Step.TheVariants.{Begin, Leg}
-use Rattle.sheet.specs.Questions.{bare}
-use Rattle.sheet.specs.declared.net.Net.{Net}
-use Rattle.reader.specs.declared.refusal.Fault.TheVariants.{SheetInUse}
 use Rattle.reader.specs.declared.refusal.Refusal.{Refusal}
 use Rattle.dimacs.specs.Layout.{ArcLine, ArcWithin, Document, Reads, Within, arc_of}
-use Rattle.dimacs.specs.Loads.{Draws, LoadsMap, LoadsSheet, MapAfter, NetAfter, Seated, anywhere, done, laid_on, legs_of, seats_of, sheet_scanned, steps_of}
-use Rattle.reader.specs.Refusals.{refused}
+use Rattle.dimacs.specs.Loads.{Draws, LoadsMap, MapAfter, anywhere, done, laid_on, legs_of, steps_of}
 use Rattle.dimacs.specs.Scan.{Draft, scanned, sites_of}
 use Rattle.dimacs.proofs.Exactness.{exact}
 use Rattle.dimacs.proofs.Sayings.{never}
@@ -69,18 +64,3 @@ loads_map bs r before after answer made =
           (answer ∙ ap done said.1, drawn anywhere doc file.within said.0 said.2 after (subst (λ s. MapAfter s before after) said.1 made));
     }
 
-pub loads_sheet : (m : Meaning) (bs : List ℕ) (r : Result (Unit {0}) Refusal) (before after : Net) → r ≡ done (sheet_scanned m before.table.rows bs) → NetAfter m (sheet_scanned m before.table.rows bs) before after → LoadsSheet m bs r before after
-loads_sheet m bs r before after answer made =
-    record {
-      accepted = λ ok. accepted_draft (sheet_scanned m before.table.rows bs) (sym answer ∙ ok) (λ d is.
-          let said = (exact m.known bs).accepted d (scanned_is (bare before.table.rows) d is) in
-          (said.0, said.1, subst (λ ns. Seated m before after (seats_of ns)) said.2.nodes (subst (λ s. NetAfter m s before after) is made)));
-      accepts = λ empty doc file.
-          let said = (exact m.known bs).accepts doc file in
-          let is = ap (λ b. cond b (scanned m.known bs) (Err (refused SheetInUse 0 0))) empty ∙ said.1 in
-          (answer ∙ ap done is, subst (λ ns. Seated m before after (seats_of ns)) said.2.nodes (subst (λ s. NetAfter m s before after) is made));
-    }
-  where
-    scanned_is : (b : Bool) (d : Draft) → cond b (scanned m.known bs) (Err (refused SheetInUse 0 0)) ≡ Ok d → scanned m.known bs ≡ Ok d
-    scanned_is true d e = e
-    scanned_is false d e = absurd (never e)
