@@ -1,5 +1,5 @@
 -- What the questions of each kind of line ask, in the layout's words.
-use Rattle.std.proofs.Common.{◌≡◌, ℕ, ◌≤◌, Bool, true, false, List, Some, None, Ok, Err, Option, Result, ap, arith}
+use Rattle.std.proofs.Common.{◌≡◌, ℕ, ◌≤◌, Bool, true, false, List, Some, None, Err, Option, Result, ap, arith}
 use Rattle.std.proofs.lemmas.Grind.{common_steps}
 use Rattle.dimacs.specs.Asking.{outcome}
 use Rattle.dimacs.specs.declared.document.Problem as the_problem
@@ -7,8 +7,10 @@ use Rattle.dimacs.specs.declared.document.Node as the_node
 use Rattle.dimacs.specs.declared.document.Arc as the_arc
 use Rattle.reader.specs.declared.refusal.Refusal.{Refusal}
 use Rattle.dimacs.specs.Layout.{ArcLine, ArcWithin, Document, NodeLine, NodeWithin, nodes_of}
-use Rattle.dimacs.specs.Scan.{arc_asked, node_asked, nothing, problem_asked, supply, taken}
+use Rattle.dimacs.specs.Scan.{Draft, arc_asked, node_asked, nothing, problem_asked, supply, taken}
+use Rattle.dimacs.specs.Contents.{left_by}
 use Rattle.dimacs.proofs.Drafts.{draft}
+use Rattle.dimacs.proofs.Sayings.{never}
 
 -- the limits of a problem
 pub record Sized (sites arcs : ℕ) : Type 0 where
@@ -55,10 +57,7 @@ module _ (doc : Document) (p : the_problem.Problem) (sites : doc.sites ≡ p.sit
         let same = ap supply all in
         grind (arith, common_steps)
 
--- a refusal is one whatever would have been left
-pub refused_still : {A B : Type 0} (q : Option Refusal) (e : Refusal) (x : A) (y : B) → Err e ≡ outcome q x → Err e ≡ outcome q y
-refused_still (Some r) e x y is = let same : e ≡ r = cc in ap Err same
-refused_still {A = A} None e x y is = absurd (clash is)
-  where
-    clash : ◌≡◌ {A = Result A Refusal} (Err e) (Ok x) → ⊥
-    clash is = let z : ◌≡◌ {A = ℕ} 0 1 = cc in omega arith
+-- a question that refuses leaves the refusal alone
+pub still_refused : {A : Type 0} (q : Option Refusal) (r : Result A Refusal) (e : Refusal) (before after : Draft) {B : Type 0} (x : B) → r ≡ Err e → Err e ≡ outcome q x → left_by r before ≡ outcome q after
+still_refused (Some f) r e before after x is asked = grind (arith, common_steps)
+still_refused None r e before after x is asked = absurd (never asked)
