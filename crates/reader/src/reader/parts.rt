@@ -16,6 +16,7 @@ fn split(text: &[u8], stop: u8) -> (&[u8], &[u8])
     }
 }
 
+// Words are parted by byte 32 alone, and `trim_ascii_start` would take other bytes too.
 fn trim(text: &[u8]) -> &[u8]
     ensures value { result.now ≡ unspaced text.now }
     ensures bound { length result.now ≤ length text.now }
