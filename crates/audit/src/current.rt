@@ -6,5 +6,5 @@ ghost use Rattle.audit.specs.Questions.{allowed};
 pub fn is_allowed(current: i64) -> bool
     ensures { result ≡ allowed current }
 {
-    current != 0 && -1_000_000 <= current && current <= 1_000_000
+    current != 0 && (-1_000_000..=1_000_000).contains(&current)
 }

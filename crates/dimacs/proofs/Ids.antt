@@ -4,7 +4,7 @@ use Rattle.std.proofs.lemmas.List.{length_push}
 use Rattle.std.proofs.lemmas.Bool.{cases_eq}
 use Rattle.std.proofs.lemmas.Bool.Decides.{nat_tests}
 use Rattle.dimacs.specs.declared.document.Node.{Node}
-use Rattle.dimacs.specs.Nodes.{distinct, vacant}
+use Rattle.dimacs.specs.Nodes.{distinct, vacant, with_more}
 use Rattle.dimacs.specs.Scan.{taken}
 
 both_true : (a b : Bool) → (a && b) ≡ true → (a ≡ true) × (b ≡ true)
@@ -129,3 +129,17 @@ distinct_few ns d = let a = length_held ns d in let b = held_le ns 64 in omega a
 -- so one that is vacant finds a place
 pub vacant_few : (ns : List Node) (n : Node) → distinct ns ≡ true → vacant ns n.id ≡ true → length ns < 64
 vacant_few ns n d v = let all = distinct_few (ns ++ (n ∷ [])) (distinct_push ns n d v) in let more = length_push ns n in omega arith
+
+-- a list of distinct ids stays one with a node whose id is vacant, and there is room for it
+module _ (ns : List Node) (n : Node) (apart : distinct ns ≡ true) (low : 1 ≤ n.id) (high : n.id ≤ 64) (free : false ≡ taken ns n.id) where
+  is_vacant : vacant ns n.id ≡ true
+  is_vacant = vacant_is ns n.id (record { low = low; high = high; free = sym free })
+
+  pub vacant_room : length ns < 64
+  vacant_room = vacant_few ns n apart is_vacant
+
+  pub pushed_apart : distinct (ns ++ (n ∷ [])) ≡ true
+  pushed_apart = distinct_push ns n apart is_vacant
+
+  pub pushed_more : ns ++ (n ∷ []) ≡ with_more ns n
+  pushed_more = ap (λ b. cond b (ns ++ (n ∷ [])) ns) (sym is_vacant)

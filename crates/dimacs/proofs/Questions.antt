@@ -1,7 +1,7 @@
 -- What the questions of each kind of line ask, in the layout's words.
 use Rattle.std.proofs.Common.{◌≡◌, ℕ, ◌≤◌, Bool, true, false, List, Some, None, Err, Option, Result, ap, arith}
 use Rattle.std.proofs.lemmas.Grind.{common_steps}
-use Rattle.dimacs.specs.Asking.{outcome}
+use Rattle.audit.specs.Questions.{outcome}
 use Rattle.dimacs.specs.declared.document.Problem as the_problem
 use Rattle.dimacs.specs.declared.document.Node as the_node
 use Rattle.dimacs.specs.declared.document.Arc as the_arc

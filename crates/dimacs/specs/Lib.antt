@@ -1,4 +1,3 @@
-pub mod Asking
 pub mod Contents
 pub mod Layout
 pub mod Loads

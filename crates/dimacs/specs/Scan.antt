@@ -1,9 +1,9 @@
 -- A file tested line by line from the top: in a line the first no decides.
-use Rattle.std.specs.Prelude.{ℕ, ◌+◌, ◌-◌, Bool, false, cond, not, ◌&&◌, ◌||◌, List, [], ◌∷◌, ◌++◌, length, ℤ, pos, negsuc, is_some, Some, None, Ok, Err, Option, Result, ◌==◌, nat_le, nat_lt, slice_index}
+use Rattle.std.specs.Prelude.{ℕ, ◌+◌, ◌-◌, Bool, false, cond, not, ◌&&◌, ◌||◌, List, [], ◌∷◌, ◌++◌, length, ℤ, pos, negsuc, is_some, Some, None, Ok, Err, Option, Result, sum_by, ◌==◌, nat_le, nat_lt, slice_index}
+use Rattle.std.specs.List.{list_any}
 use Rattle.ruler.specs.declared.refusal.Refusal.TheVariants.{LegTooLong}
 use Rattle.audit.specs.declared.refusal.Refusal.TheVariants.{IdTaken, CurrentOutOfRange, SiteUnknown}
-use Rattle.audit.specs.Questions.{allowed}
-use Rattle.dimacs.specs.Asking.{ask, first_no, outcome}
+use Rattle.audit.specs.Questions.{allowed, ask, first_no, outcome}
 use Rattle.dimacs.specs.declared.document.Problem as the_problem
 use Rattle.dimacs.specs.declared.document.Node as the_node
 use Rattle.dimacs.specs.declared.document.Arc as the_arc
@@ -35,8 +35,7 @@ on_site d id = nat_le 1 id && nat_le id (sites_of d.problem)
 
 -- a node with that id stands among these
 abbrev pub taken : List the_node.Node → ℕ → Bool
-taken [] id = false
-taken (n ∷ ns) id = n.id == id || taken ns id
+taken ns id = list_any (λ n. n.id == id) ns
 
 -- what a flow gives: a negative one nothing
 abbrev pub gives : ℤ → ℕ
@@ -45,8 +44,7 @@ gives (negsuc n) = 0
 
 -- the sum of the positive flows
 abbrev pub supply : List the_node.Node → ℕ
-supply [] = 0
-supply (n ∷ ns) = gives n.flow + supply ns
+supply ns = sum_by (λ n. gives n.flow) ns
 
 -- p: no other p, then min, N from 1 to 64, at most 2,000 arcs
 abbrev pub problem_asked : ℕ → Draft → Bool → ℕ → ℕ → Option Refusal

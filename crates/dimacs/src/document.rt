@@ -6,13 +6,13 @@ pub struct Problem {
     pub arcs: u32,
 }
 
-#[derive(Clone, Copy, PartialEq, Eq, Debug)]
+#[derive(Clone, Copy, PartialEq, Eq, Debug, Default)]
 pub struct Node {
     pub id: u32,
     pub flow: i32,
 }
 
-#[derive(Clone, Copy, PartialEq, Eq, Debug)]
+#[derive(Clone, Copy, PartialEq, Eq, Debug, Default)]
 pub struct Arc {
     pub from: u32,
     pub to: u32,

@@ -1,9 +1,11 @@
 // What was read of a file so far: its problem, its nodes, its first 2,000 arcs, and how many arcs there were.
-ghost use Rattle.std.specs.Prelude.{◌≡◌, ◌≤◌, length};
+ghost use Rattle.std.specs.Prelude.{◌≡◌, ◌≤◌, length, min};
+ghost use Rattle.bounded.specs.Items.{items};
 ghost use Rattle.dimacs.specs.Scan.{sites_of};
 
 use crate::document::{Arc, Problem};
 use crate::draft::nodes::Nodes;
+use bounded::bounded::Bounded;
 
 mod nodes;
 
@@ -13,8 +15,8 @@ pub use nodes::scan;
 pub struct Draft {
     problem: Option<Problem>,
     nodes: Nodes,
-    arcs: [Arc; 2000],
+    arcs: Bounded<Arc, 2000>,
     lines: usize,
     ghost small: { sites_of problem ≤ 64 },
-    ghost full: { length arcs ≡ 2000 },
+    ghost kept: { length (items arcs) ≡ min lines 2000 },
 }

@@ -50,7 +50,7 @@ fn seat_node<R: Ruler>(sheet: &mut Sheet<R>, node: &Node)
     ensures ledger { ledger_of sheet.new.net ≡ fed (R.meaning sheet.old.ruler) (ledger_of sheet.old.net) (seat_call node.now) }
     ensures plan { sheet.new.net.plan ≡ unless (asked (R.meaning sheet.old.ruler) (ledger_of sheet.old.net) (seat_call node.now)) sheet.old.net.plan None }
     ensures same { sheet.new.ruler ≡ sheet.old.ruler }
-    ensures law { Lawful (R.meaning sheet.old.ruler) sheet.old.net → Lawful (R.meaning sheet.new.ruler) sheet.new.net }
+    ensures law { Lawful (R.meaning sheet.new.ruler) sheet.new.net }
 {
     let _ = sheet.seat(node.id, node.id, node.flow);
 }
@@ -58,7 +58,7 @@ fn seat_node<R: Ruler>(sheet: &mut Sheet<R>, node: &Node)
 fn seat_nodes<R: Ruler>(sheet: &mut Sheet<R>, nodes: &[Node])
     ensures after { Seated (R.meaning sheet.old.ruler) sheet.old.net sheet.new.net (seats_of nodes.now) }
     ensures same { sheet.new.ruler ≡ sheet.old.ruler }
-    ensures law { Lawful (R.meaning sheet.old.ruler) sheet.old.net → Lawful (R.meaning sheet.new.ruler) sheet.new.net }
+    ensures law { Lawful (R.meaning sheet.new.ruler) sheet.new.net }
 {
     for node in nodes {
         seat_node(sheet, node);
@@ -71,7 +71,7 @@ pub fn load_sheet<R: Ruler>(sheet: &mut Sheet<R>, file: &[u8]) -> Result<(), Ref
     ensures after { NetAfter (R.meaning sheet.old.ruler) (sheet_scanned (R.meaning sheet.old.ruler) sheet.old.net.table.rows file.now) sheet.old.net sheet.new.net }
     ensures document { LoadsSheet (R.meaning sheet.old.ruler) file.now result sheet.old.net sheet.new.net }
     ensures same { sheet.new.ruler ≡ sheet.old.ruler }
-    ensures law { Lawful (R.meaning sheet.old.ruler) sheet.old.net → Lawful (R.meaning sheet.new.ruler) sheet.new.net }
+    ensures law { Lawful (R.meaning sheet.new.ruler) sheet.new.net }
 {
     if !sheet.is_bare() {
         return Err(Fault::SheetInUse.at(0, 0));

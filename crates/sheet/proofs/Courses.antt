@@ -5,7 +5,7 @@ use Rattle.ruler.specs.Meaning.{Meaning}
 use Rattle.sheet.specs.declared.call.Call.{Call}
 use Rattle.sheet.specs.Ledger.{Ledger, course, fed}
 
-course_push : (m : Meaning) (l : Ledger) (calls : List Call) (call : Call) → course m l (calls ++ call ∷ []) ≡ fed m (course m l calls) call
+pub course_push : (m : Meaning) (l : Ledger) (calls : List Call) (call : Call) → course m l (calls ++ call ∷ []) ≡ fed m (course m l calls) call
 course_push m l [] call = refl
 course_push m l (first ∷ calls) call = course_push m (fed m l first) calls call
 

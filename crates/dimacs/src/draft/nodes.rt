@@ -1,8 +1,10 @@
 // The nodes of a file in their order. No id comes twice, so 64 places are enough.
-ghost use Rattle.std.specs.Prelude.{◌≡◌, ◌≤◌, true, length, take};
+ghost use Rattle.std.specs.Prelude.{◌≡◌, true};
+ghost use Rattle.bounded.specs.Items.{items};
 ghost use Rattle.dimacs.specs.Nodes.{distinct};
 
 use crate::document::Node;
+use bounded::bounded::Bounded;
 
 mod list;
 
@@ -10,9 +12,6 @@ pub use list::scan;
 
 #[derive(Clone, Copy)]
 pub struct Nodes {
-    list: [Node; 64],
-    count: usize,
-    ghost few: { count ≤ 64 },
-    ghost full: { length list ≡ 64 },
-    ghost apart: { distinct (take count list) ≡ true },
+    list: Bounded<Node, 64>,
+    ghost apart: { distinct (items list) ≡ true },
 }

@@ -11,7 +11,7 @@ loop-arc-preserved c = λ chart shown.
     let arcs = c.args.arcs.now in
     let so = legs_of (take c.loop-arc.arc-index arcs) in
     let more = ap (course chart) (map_more leg_step arcs c.loop-arc.arc-index _ c.loop-arc-test.true) ∙ course_push chart so _ in
-    subst (Shows _) (sym more) (c.make.ensures (course chart so) (c.loop-arc.invariant chart shown))
+    subst (Shows _) (sym more) (c.make.ensures.shown (course chart so) (c.loop-arc.invariant chart shown))
 
 pub returns : goal.returns
 returns c = λ chart shown. grind (arith, common_steps, c.loop-arc.invariant chart shown)

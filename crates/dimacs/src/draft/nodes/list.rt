@@ -6,6 +6,7 @@ ghost use Rattle.dimacs.specs.Scan.{gives, supply, taken};
 
 use crate::document::Node;
 use crate::draft::nodes::Nodes;
+use bounded::bounded::Bounded;
 
 mod entries;
 
@@ -24,8 +25,7 @@ impl Nodes {
         ensures { nodes_in result ≡ [] }
     {
         Nodes {
-            list: [Node { id: 0, flow: 0 }; 64],
-            count: 0,
+            list: Bounded::new(),
         }
     }
 
@@ -33,42 +33,30 @@ impl Nodes {
         ensures value { result.now ≡ nodes_in self.now }
         ensures bound { length result.now ≤ 64 }
     {
-        &self.list[0..self.count]
+        self.list.as_slice()
     }
 
     // Whether a node has that id.
     fn has(&self, id: u32) -> bool
         ensures { result ≡ taken (nodes_in self.now) id }
     {
-        let nodes = self.as_slice();
-        for node in nodes {
-            if node.id == id {
-                return true;
-            }
-        }
-        false
+        self.as_slice().iter().any(|node| node.id == id)
     }
 
     // The sum of the positive flows.
     fn supply(&self) -> u64
         ensures { result ≡ supply (nodes_in self.now) }
     {
-        let nodes = self.as_slice();
-        let mut sum = 0u64;
-        for node in nodes {
-            sum += given(node);
-        }
-        sum
+        self.as_slice().iter().map(given).sum()
     }
 
     // One node more, unless its id is taken or not from 1 to 64.
     fn add(&mut self, node: Node)
         ensures { nodes_in self.new ≡ with_more (nodes_in self.old) node }
     {
-        if node.id < 1 || node.id > 64 || self.has(node.id) {
-            return;
+        if 1 <= node.id && node.id <= 64 && !self.has(node.id) {
+            // There is room, since no two nodes share an id.
+            let _ = self.list.push(node);
         }
-        self.list[self.count] = node;
-        self.count += 1;
     }
 }

@@ -1,7 +1,6 @@
 // A line put to its questions, and then entered in the draft.
 ghost use Rattle.std.specs.Prelude.{◌≡◌, ◌+◌, ◌^◌, ◌<◌, ◌≤◌, true, false, OnOk};
-ghost use Rattle.audit.specs.Questions.{allowed};
-ghost use Rattle.dimacs.specs.Asking.{outcome};
+ghost use Rattle.audit.specs.Questions.{allowed, outcome};
 ghost use Rattle.dimacs.specs.Contents.{draft_of, left_by};
 ghost use Rattle.dimacs.specs.Scan.{arc_asked, entered, node_asked, nothing, on_site, problem_asked, sites_of, taken, with_arc, with_node, with_problem};
 
@@ -9,7 +8,9 @@ use crate::document::{Arc, Node, Problem};
 use crate::draft::Draft;
 use crate::draft::nodes::Nodes;
 use crate::sites::Sites;
+use audit::current::is_allowed;
 use audit::refusal::Refusal as TerminalRefusal;
+use bounded::bounded::Bounded;
 use reader::line::{ArcLine, NodeLine, ProblemLine};
 use reader::refusal::{Fault, Refusal};
 use ruler::refusal::Refusal as LegRefusal;
@@ -18,12 +19,6 @@ mod scanning;
 
 pub use scanning::scan;
 
-fn is_allowed(flow: i64) -> bool
-    ensures { result ≡ allowed flow }
-{
-    flow != 0 && (-1_000_000..=1_000_000).contains(&flow)
-}
-
 impl Draft {
     fn nothing() -> Draft
         ensures { draft_of result ≡ nothing }
@@ -31,11 +26,7 @@ impl Draft {
         Draft {
             problem: None,
             nodes: Nodes::none(),
-            arcs: [Arc {
-                from: 0,
-                to: 0,
-                cost: 0,
-            }; 2000],
+            arcs: Bounded::new(),
             lines: 0,
         }
     }
@@ -59,7 +50,7 @@ impl Draft {
     pub fn arcs(&self) -> &[Arc]
         ensures { result.now ≡ (draft_of self.now).arcs }
     {
-        &self.arcs[0..self.lines.min(2000)]
+        self.arcs.as_slice()
     }
 
     fn is_site(&self, id: u64) -> bool
@@ -176,9 +167,7 @@ impl Draft {
         ensures lines { self.new.lines ≡ self.old.lines + 1 }
         ensures entry { draft_of self.new ≡ with_arc (draft_of self.old) arc.from arc.to arc.cost }
     {
-        if self.lines < 2000 {
-            self.arcs[self.lines] = arc;
-        }
+        let _ = self.arcs.push(arc);
         self.lines += 1;
     }
 
