@@ -28,11 +28,10 @@ fn lay_arcs(map: &mut Map, arcs: &[Arc])
     }
 }
 
-// Replaces the map by that of a file: its sites, a ring of 4,000,000, and a leg for each arc.
-pub fn load_map(map: &mut Map, file: &[u8]) -> Result<(), Refusal>
+// Draws the map of the file apart, so that a refusal leaves the map as it was.
+fn redraw(map: &mut Map, file: &[u8]) -> Result<(), Refusal>
     ensures answer { result ≡ done (scanned anywhere file.now) }
     ensures after { MapAfter (scanned anywhere file.now) map.old map.new }
-    ensures document { LoadsMap file.now result map.new }
 {
     let draft = scan(file, &Anywhere)?;
     let mut drawn = Map::empty();
@@ -45,12 +44,20 @@ pub fn load_map(map: &mut Map, file: &[u8]) -> Result<(), Refusal>
     Ok(())
 }
 
+// Replaces the map by that of a file: its sites, a ring of 4,000,000, and a leg for each arc.
+pub fn load_map(map: &mut Map, file: &[u8]) -> Result<(), Refusal>
+    ensures answer { result ≡ done (scanned anywhere file.now) }
+    ensures after { MapAfter (scanned anywhere file.now) map.old map.new }
+    ensures document { LoadsMap file.now result map.new }
+{
+    redraw(map, file)
+}
+
 // A node is seated with its id as its site; the file's test saw to it that it is not refused.
 fn seat_node<R: Ruler>(sheet: &mut Sheet<R>, node: &Node)
     ensures ledger { ledger_of sheet.new.net ≡ fed (R.meaning sheet.old.ruler) (ledger_of sheet.old.net) (seat_call node.now) }
     ensures plan { sheet.new.net.plan ≡ unless (asked (R.meaning sheet.old.ruler) (ledger_of sheet.old.net) (seat_call node.now)) sheet.old.net.plan None }
     ensures same { sheet.new.ruler ≡ sheet.old.ruler }
-    ensures law { Lawful (R.meaning sheet.new.ruler) sheet.new.net }
 {
     let _ = sheet.seat(node.id, node.id, node.flow);
 }
@@ -58,11 +65,22 @@ fn seat_node<R: Ruler>(sheet: &mut Sheet<R>, node: &Node)
 fn seat_nodes<R: Ruler>(sheet: &mut Sheet<R>, nodes: &[Node])
     ensures after { Seated (R.meaning sheet.old.ruler) sheet.old.net sheet.new.net (seats_of nodes.now) }
     ensures same { sheet.new.ruler ≡ sheet.old.ruler }
-    ensures law { Lawful (R.meaning sheet.new.ruler) sheet.new.net }
 {
     for node in nodes {
         seat_node(sheet, node);
     }
+}
+
+// Tests the file, and then seats its nodes.
+fn fill<R: Ruler>(sheet: &mut Sheet<R>, file: &[u8]) -> Result<(), Refusal>
+    ensures answer { result ≡ done (scanned (R.meaning sheet.old.ruler).known file.now) }
+    ensures after { NetAfter (R.meaning sheet.old.ruler) (scanned (R.meaning sheet.old.ruler).known file.now) sheet.old.net sheet.new.net }
+    ensures document { LoadsSheet (R.meaning sheet.old.ruler) file.now result sheet.old.net sheet.new.net }
+    ensures same { sheet.new.ruler ≡ sheet.old.ruler }
+{
+    let draft = scan(file, sheet)?;
+    seat_nodes(sheet, draft.nodes());
+    Ok(())
 }
 
 // Fills a sheet without terminals with those of a file.
@@ -76,7 +94,5 @@ pub fn load_sheet<R: Ruler>(sheet: &mut Sheet<R>, file: &[u8]) -> Result<(), Ref
     if !sheet.is_bare() {
         return Err(Fault::SheetInUse.at(0, 0));
     }
-    let draft = scan(file, sheet)?;
-    seat_nodes(sheet, draft.nodes());
-    Ok(())
+    fill(sheet, file)
 }

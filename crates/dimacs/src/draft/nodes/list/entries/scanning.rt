@@ -61,6 +61,7 @@ fn scan_lines<S: Sites>(file: &[u8], sites: &S) -> Result<Draft, Refusal>
 }
 
 // The contents of a file, or the first refusal.
+#[tactic(auto, using(crate::proofs::Exactness::exact))]
 pub fn scan<S: Sites>(file: &[u8], sites: &S) -> Result<Draft, Refusal>
     ensures answer { given_by result ≡ scanned (S.known sites.now) file.now }
     ensures document { Exact (S.known sites.now) file.now (given_by result) }
