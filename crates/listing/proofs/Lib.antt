@@ -1,5 +1,4 @@
 mod Placing
-mod Decimals
 mod Texts
 mod Words
 mod Reading

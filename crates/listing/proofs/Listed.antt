@@ -27,7 +27,6 @@ module _ (text held holds : List ℕ) (n : ℕ) (fits : length text ≤ length h
   put_filled = begins ∙ ap (λ b. cond b held (text ++ drop (length text) held)) (sym room)
 
 module _ (o : Option Plan) (p : Plan) (held holds : List ℕ) (n : ℕ) (is : Some p ≡ o) (fits : length (text_of p) ≤ length held) (put : Put held 0 (text_of p) holds n) where
-
   pub list_after : holds ≡ left_in o held
   list_after = put_filled (text_of p) held holds n fits put ∙ ap (λ plan. left_in plan held) is
 

@@ -2,7 +2,6 @@
 use Rattle.std.proofs.Common.{◌≡◌, ℕ, ◌+◌, ◌<◌, ◌≤◌, List, [], ◌∷◌, ◌++◌, length, get_or, drop, codes, decimal, ap, ◌∙◌, append_assoc, length-append}
 use Rattle.std.proofs.lemmas.List.{at_drop_more, at_drop_all}
 use Rattle.planner.specs.declared.plan.Link.{Link}
-use Rattle.sheet.specs.Answers.{no_link}
 use Rattle.listing.specs.Files.{refusal_line}
 use Rattle.listing.specs.Listing.{wire_line, wire_lines}
 
@@ -16,6 +15,10 @@ parts_are l = simp append_assoc
 module _ (l : Link) (n : ℕ × ℕ × ℕ) (order : n ≡ (l.from, l.to, l.current)) where
   pub wire_line_parts : parts n ≡ wire_line l
   wire_line_parts = ap parts order ∙ parts_are l
+
+-- what a place past the last wire would hold
+abbrev pub no_link : Link
+no_link = record { from = 0; to = 0; current = 0 }
 
 -- what is left of the wires and of their lines, one wire on and at the end
 module _ (ls : List Link) (i : ℕ) where

@@ -1,6 +1,8 @@
 // Numbers in decimal, and the bytes between them, written at a place of a lent buffer.
-ghost use Rattle.std.specs.Prelude.{◌≡◌, ◌+◌, ◌%◌, ◌<◌, ◌≤◌, [], ◌∷◌, ◌++◌, length, decimal};
+ghost use Rattle.std.specs.Prelude.{◌≡◌, ◌+◌, ◌<◌, ◌≤◌, [], ◌∷◌, ◌++◌, length, decimal};
 ghost use Rattle.listing.specs.Listing.{Put};
+
+use itoa::Buffer;
 
 mod lines;
 mod replies;
@@ -13,19 +15,8 @@ fn digits_of(number: u64) -> usize
     ensures count { result ≡ length (decimal number) }
     ensures few { result ≤ 20 }
 {
-    let mut rest = number;
-    let mut count = 1;
-    while rest >= 10 {
-        rest /= 10;
-        count += 1;
-    }
-    count
-}
-
-fn last_digit(number: u64) -> u8
-    ensures { result ≡ 48 + number % 10 }
-{
-    b'0' + (number % 10) as u8
+    let mut buffer = Buffer::new();
+    buffer.format(number).len()
 }
 
 // Each put writes its bytes at a place and answers the place after them.
@@ -37,16 +28,21 @@ fn put_byte(out: &mut [u8], at: usize, byte: u8) -> usize
     at + 1
 }
 
-// The leading digits come first, so no digit is moved; a number has at most 20.
+fn put_text(out: &mut [u8], start: usize, text: &[u8]) -> usize
+    requires { start + length text.now ≤ length out.old }
+    ensures { Put out.old start text.now out.new result }
+{
+    let end = start + text.len();
+    out[start..end].copy_from_slice(text);
+    end
+}
+
 fn put_number(out: &mut [u8], at: usize, number: u64) -> usize
     requires { at + length (decimal number) ≤ length out.old }
     ensures { Put out.old at (decimal number) out.new result }
 {
-    if number < 10 {
-        return put_byte(out, at, last_digit(number));
-    }
-    let next = put_number(out, at, number / 10);
-    put_byte(out, next, last_digit(number))
+    let mut buffer = Buffer::new();
+    put_text(out, at, buffer.format(number).as_bytes())
 }
 
 // A number, and the byte that ends its word.

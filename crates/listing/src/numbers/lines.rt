@@ -80,7 +80,7 @@ pub fn list<R: Ruler>(sheet: &Sheet<R>, buffer: &mut [u8]) -> Result<usize, Refu
     let Some(plan) = sheet.planned() else {
         return Err(Refusal::NotPlanned);
     };
-    let links = &plan.links[..plan.count];
+    let links = plan.links.as_slice();
     let length = text_length(plan.area, links);
     if length > buffer.len() {
         return Err(Refusal::TextTooLong);

@@ -4,19 +4,10 @@ ghost use Rattle.listing.specs.Files.{Replied, refusal_text};
 ghost use Rattle.listing.specs.Listing.{Put, filled, fitted};
 
 use crate::numbers::lines::list;
-use crate::numbers::{digits_of, put_last, put_word};
+use crate::numbers::{digits_of, put_last, put_text, put_word};
 use crate::planning::plan_file;
 use crate::refusal::Refusal;
 use reader::refusal::Refusal as FileRefusal;
-
-fn put_text(out: &mut [u8], start: usize, text: &[u8]) -> usize
-    requires { start + length text.now ≤ length out.old }
-    ensures { Put out.old start text.now out.new result }
-{
-    let end = start + text.len();
-    out[start..end].copy_from_slice(text);
-    end
-}
 
 // The words `c` and `refused` take ten bytes with their spaces, and each number is followed by one more.
 fn refusal_length(refusal: &FileRefusal) -> usize

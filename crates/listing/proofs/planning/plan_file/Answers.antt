@@ -39,6 +39,5 @@ returns c =
     let last = c.plan.new.self in
     let drawn = subst (λ m. LoadsMap bs (Ok tt) m) (sym opened.kept) c.in_ok-load_map.ensures.document in
     let same : last.ruler ≡ map = planned.same ∙ loaded.same in
-    let law = planned.law (loaded.law (subst (λ m. Lawful (mapped m) c.open-sheet.result.net) (sym opened.kept) opened.law)) in
     let answer : Ok tt ≡ told (asked (mapped map) (ledger_of c.load_sheet.new.sheet.net) Plan) = search rules in
-    subst (λ m. Planned bs m last.net) (sym same) (plan_done bs map _ opened.ledger drawn _ _ loaded.document last.net answer planned.after (subst (λ m. Lawful (mapped m) last.net) same law))
+    subst (λ m. Planned bs m last.net) (sym same) (plan_done bs map _ opened.ledger drawn _ _ loaded.document last.net answer planned.after (subst (λ m. Lawful (mapped m) last.net) same planned.law))
