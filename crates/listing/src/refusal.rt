@@ -2,6 +2,9 @@
 ghost use Rattle.std.specs.Prelude.{◌≡◌};
 ghost use Rattle.listing.specs.Refusals.{number_of, place_of};
 
+use std::fmt;
+use std::fmt::Display;
+
 #[derive(Clone, Copy, PartialEq, Eq, Debug)]
 pub enum Refusal {
     NotPlanned,
@@ -24,5 +27,11 @@ impl Refusal {
         match *self {
             Refusal::NotPlanned | Refusal::TextTooLong => 0,
         }
+    }
+}
+
+impl Display for Refusal {
+    fn fmt<W: fmt::Write>(&self, f: &mut fmt::Formatter<W>) -> fmt::Result {
+        write!(f, "refused {}", self.number())
     }
 }

@@ -16,9 +16,6 @@ fn main(rt: HostRuntime) -> io::Result<()> {
     let mut text = vec![in heap; 0u8; ROOM]?;
     match answer(file.as_slice(), text.as_mut_slice()) {
         Ok(count) => rt.stdout().write_all(&text[0..count]),
-        Err(refusal) => {
-            let number = refusal.number();
-            println!(rt; "c refused {number} 0 0")
-        }
+        Err(refusal) => println!(rt; "c {refusal} 0 0"),
     }
 }

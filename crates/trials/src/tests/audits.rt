@@ -53,9 +53,15 @@ fn tables_and_lists_have_their_size(rt: HostRuntime) {
     assert_eq!(rt; told(sheet.audit(&long, &[0; 63])), Err((8, 0)));
     assert_eq!(rt; told(sheet.audit(&long, &[0; 65])), Err((8, 0)));
     assert_eq!(rt; told(sheet.audit(&long, &[])), Err((8, 0)));
-    assert_eq!(rt; told(sheet.audit(&long, &marked([0, 4, 0, 0]))), Err((9, 0)));
+    assert_eq!(rt;
+        told(sheet.audit(&long, &marked([0, 4, 0, 0]))),
+        Err((9, 0))
+    );
     let full = [wire(0, 4, 3); 1_024];
-    assert_eq!(rt; told(sheet.audit(&full, &marked([0, 4, 0, 0]))), Err((13, 0)));
+    assert_eq!(rt;
+        told(sheet.audit(&full, &marked([0, 4, 0, 0]))),
+        Err((13, 0))
+    );
 }
 
 #[test]
@@ -100,7 +106,10 @@ fn marks_are_in_range(rt: HostRuntime) {
         told(sheet.audit(&list, &marked([3_999_997, 4_000_001, 0, 0]))),
         Err((12, 2))
     );
-    assert_eq!(rt; told(sheet.audit(&list, &marked([0, 4, 0, 1]))), Err((12, 4)));
+    assert_eq!(rt;
+        told(sheet.audit(&list, &marked([0, 4, 0, 1]))),
+        Err((12, 4))
+    );
     assert_eq!(rt;
         told(sheet.audit(&[], &marked([4_000_001, 4, 1, 0]))),
         Err((12, 1))
@@ -124,10 +133,19 @@ fn the_smallest_site_that_fails_is_named(rt: HostRuntime) {
 fn marks_rise_by_no_more_than_the_length(rt: HostRuntime) {
     let sheet = one_wire();
     let list = [wire(0, 4, 3)];
-    assert_eq!(rt; told(sheet.audit(&list, &marked([0, 5, 0, 0]))), Err((14, 1)));
-    assert_eq!(rt; told(sheet.audit(&list, &marked([9, 4, 0, 0]))), Err((14, 2)));
+    assert_eq!(rt;
+        told(sheet.audit(&list, &marked([0, 5, 0, 0]))),
+        Err((14, 1))
+    );
+    assert_eq!(rt;
+        told(sheet.audit(&list, &marked([9, 4, 0, 0]))),
+        Err((14, 2))
+    );
     assert_eq!(rt; told(sheet.audit(&[], &marked([0, 5, 0, 0]))), Err((13, 0)));
-    assert_eq!(rt; told(sheet.audit(&list, &marked([0, 3, 0, 0]))), Err((15, 0)));
+    assert_eq!(rt;
+        told(sheet.audit(&list, &marked([0, 3, 0, 0]))),
+        Err((15, 0))
+    );
 }
 
 #[test]

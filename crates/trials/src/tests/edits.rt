@@ -8,7 +8,10 @@ fn ids_run_from_1_to_64(rt: HostRuntime) {
     let mut sheet = Sheet::open(Strip);
     assert_eq!(rt; told(sheet.seat(0, 5, 7)), Err((1, 0)));
     assert_eq!(rt; told(sheet.seat(65, 5, 7)), Err((1, 65)));
-    assert_eq!(rt; told(sheet.seat(4_294_967_295, 5, 7)), Err((1, 4_294_967_295)));
+    assert_eq!(rt;
+        told(sheet.seat(4_294_967_295, 5, 7)),
+        Err((1, 4_294_967_295))
+    );
     assert_eq!(rt; told(sheet.seat(1, 5, 7)), Ok(()));
     assert_eq!(rt; told(sheet.seat(64, 5, 7)), Ok(()));
     assert_eq!(rt; told(sheet.move_to(65, 5)), Err((1, 65)));

@@ -336,8 +336,7 @@ fn an_arc_carries_all_that_flows(rt: HostRuntime) {
                 b"p min 2 1\nn 1 1000000\nn 2 1000000\na 1 2 0 1999999 5\n",
                 (29, 4, 5, 0),
             ),
-            accepts(
-                b"p min 2 1\nn 1 1000000\nn 2 1000000\na 1 2 0 2000000 5\n"),
+            accepts(b"p min 2 1\nn 1 1000000\nn 2 1000000\na 1 2 0 2000000 5\n"),
         ],
     );
 }

@@ -66,10 +66,7 @@ fn an_empty_plan_lists_its_area(rt: HostRuntime) {
 fn wires_are_listed_in_wire_order(rt: HostRuntime) {
     let mut sheet = Sheet::open(Plane);
     assert_eq!(rt; told(sheet.seat(64, Plane::site(0, 1), -1)), Ok(()));
-    assert_eq!(rt;
-        told(sheet.seat(10, Plane::site(0, 0), 1_000_000)),
-        Ok(())
-    );
+    assert_eq!(rt; told(sheet.seat(10, Plane::site(0, 0), 1_000_000)), Ok(()));
     assert_eq!(rt; told(sheet.seat(20, Plane::site(7, 0), -999_999)), Ok(()));
     assert_eq!(rt; told(sheet.plan()), Ok(()));
     let mut buffer = [b'.'; 36];
