@@ -1,4 +1,5 @@
 pub mod Refusals
 pub mod Listing
+pub mod Pens
 pub mod Reading
 pub mod Files

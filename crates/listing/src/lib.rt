@@ -1,8 +1,8 @@
 // The plan of a sheet as text: `s AREA`, and then `f FROM TO CURRENT` for each wire; and the answer to a whole file.
 #![tactic(auto)]
 
-mod numbers;
+mod pen;
 pub mod planning;
 pub mod refusal;
 
-pub use numbers::{answer, list};
+pub use pen::{answer, list};

@@ -1,7 +1,7 @@
 use Rattle.std.proofs.Common.{length, refl, ap, ◌∙◌, inl, inr}
 use Rattle.listing.specs.Files.{refusal_text}
 use Rattle.listing.specs.Listing.{left_in, listed, text_of}
-use Rattle.listing.proofs.numbers.replies.answer.Goals as goal
+use Rattle.listing.proofs.pen.replies.answer.Goals as goal
 
 pub returns-in-Ok-clause-reply : goal.returns-in-Ok-clause-reply
 returns-in-Ok-clause-reply c =

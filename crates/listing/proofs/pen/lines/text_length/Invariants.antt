@@ -1,7 +1,7 @@
 use Rattle.std.proofs.Common.{◌≡◌, ◌+◌, ◌*◌, ◌≤◌, length, drop}
 use Rattle.std.specs.List.{AllByRecursion}
 use Rattle.listing.specs.Listing.{listing_of, wire_lines, Sized}
-use Rattle.listing.proofs.numbers.lines.text_length.Given as goal
+use Rattle.listing.proofs.pen.lines.text_length.Given as goal
 
 -- what is counted and what is left are the whole, no line is longer than 65, and what is counted is sized
 abbrev pub invariant-loop-link : goal.invariant-loop-link

@@ -2,9 +2,10 @@
 ghost use Rattle.std.specs.Prelude.{◌≡◌, ◌+◌, ◌≤◌, length, IfOk};
 ghost use Rattle.listing.specs.Files.{Replied, refusal_text};
 ghost use Rattle.listing.specs.Listing.{Put, filled, fitted};
+ghost use Rattle.listing.specs.Pens.{HasRoom, Writes};
 
-use crate::numbers::lines::list;
-use crate::numbers::{digits_of, put_last, put_text, put_word};
+use crate::pen::lines::list;
+use crate::pen::{Pen, digits_of};
 use crate::planning::plan_file;
 use crate::refusal::Refusal;
 use reader::refusal::Refusal as FileRefusal;
@@ -19,14 +20,26 @@ fn refusal_length(refusal: &FileRefusal) -> usize
     13 + number + line + word
 }
 
-fn put_refusal(out: &mut [u8], refusal: &FileRefusal) -> usize
-    requires { length (refusal_text refusal.now) ≤ length out.old }
-    ensures { Put out.old 0 (refusal_text refusal.now) out.new result }
+impl<'a> Pen<'a> {
+    fn put_refusal(&mut self, refusal: &FileRefusal)
+        requires { HasRoom self.old (refusal_text refusal.now) }
+        ensures { Writes self.old self.new (refusal_text refusal.now) }
+    {
+        self.put(b"c refused ");
+        self.put_word(u64::from(refusal.number()), b' ');
+        self.put_word(refusal.line as u64, b' ');
+        self.put_last(refusal.word as u64);
+    }
+}
+
+// Writes the refusal at the start of a buffer, and answers how many bytes it takes.
+fn write_refusal(refusal: &FileRefusal, buffer: &mut [u8]) -> usize
+    requires { length (refusal_text refusal.now) ≤ length buffer.old }
+    ensures { Put buffer.old 0 (refusal_text refusal.now) buffer.new result }
 {
-    let first = put_text(out, 0, b"c refused ");
-    let second = put_word(out, first, u64::from(refusal.number()), b' ');
-    let third = put_word(out, second, refusal.line as u64, b' ');
-    put_last(out, third, refusal.word as u64)
+    let mut pen = Pen { out: buffer, at: 0 };
+    pen.put_refusal(refusal);
+    pen.at
 }
 
 fn list_refusal(refusal: &FileRefusal, buffer: &mut [u8]) -> Result<usize, Refusal>
@@ -36,7 +49,7 @@ fn list_refusal(refusal: &FileRefusal, buffer: &mut [u8]) -> Result<usize, Refus
     if refusal_length(refusal) > buffer.len() {
         return Err(Refusal::TextTooLong);
     }
-    Ok(put_refusal(buffer, refusal))
+    Ok(write_refusal(refusal, buffer))
 }
 
 // Answers a file in a buffer, and says how many bytes the answer takes.

@@ -2,9 +2,10 @@
 ghost use Rattle.std.specs.Prelude.{◌≡◌, ◌+◌, ◌≤◌, length, take, IfOk};
 ghost use Rattle.std.specs.List.{AllByRecursion};
 ghost use Rattle.listing.specs.Listing.{Put, Sized, area_words, left_in, line_of, listed, listing_of, wire_line, wire_lines};
+ghost use Rattle.listing.specs.Pens.{HasRoom, Writes};
 ghost use Rattle.listing.specs.Reading.{read_back, told};
 
-use crate::numbers::{digits_of, put_last, put_letter, put_word};
+use crate::pen::{Pen, digits_of};
 use crate::refusal::Refusal;
 use planner::plan::Link;
 use ruler::ruler::Ruler;
@@ -41,34 +42,52 @@ fn text_length(area: u64, links: &[Link]) -> usize
     count
 }
 
-fn put_area(out: &mut [u8], area: u64) -> usize
-    requires { length (line_of (area_words area)) ≤ length out.old }
-    ensures { Put out.old 0 (line_of (area_words area)) out.new result }
-{
-    let at = put_letter(out, 0, b's');
-    put_last(out, at, area)
-}
-
-fn put_link(out: &mut [u8], at: usize, link: &Link) -> usize
-    requires { at + length (wire_line link.now) ≤ length out.old }
-    ensures { Put out.old at (wire_line link.now) out.new result }
-{
-    let (from, to, current) = numbers_of(link);
-    let first = put_letter(out, at, b'f');
-    let second = put_word(out, first, from, b' ');
-    let third = put_word(out, second, to, b' ');
-    put_last(out, third, current)
-}
-
-fn put_links(out: &mut [u8], start: usize, links: &[Link]) -> usize
-    requires { start + length (wire_lines links.now) ≤ length out.old }
-    ensures { Put out.old start (wire_lines links.now) out.new result }
-{
-    let mut at = start;
-    for link in links {
-        at = put_link(out, at, link);
+impl<'a> Pen<'a> {
+    fn put_area(&mut self, area: u64)
+        requires { HasRoom self.old (line_of (area_words area)) }
+        ensures { Writes self.old self.new (line_of (area_words area)) }
+    {
+        self.put(b"s ");
+        self.put_last(area);
     }
-    at
+
+    fn put_link(&mut self, link: &Link)
+        requires { HasRoom self.old (wire_line link.now) }
+        ensures { Writes self.old self.new (wire_line link.now) }
+    {
+        let (from, to, current) = numbers_of(link);
+        self.put(b"f ");
+        self.put_word(from, b' ');
+        self.put_word(to, b' ');
+        self.put_last(current);
+    }
+
+    fn put_links(&mut self, links: &[Link])
+        requires { HasRoom self.old (wire_lines links.now) }
+        ensures { Writes self.old self.new (wire_lines links.now) }
+    {
+        for link in links {
+            self.put_link(link);
+        }
+    }
+
+    fn put_listing(&mut self, area: u64, links: &[Link])
+        requires { HasRoom self.old (listing_of area links.now) }
+        ensures { Writes self.old self.new (listing_of area links.now) }
+    {
+        self.put_area(area);
+        self.put_links(links);
+    }
+}
+
+// Writes the lines at the start of a buffer, and answers how many bytes they take.
+fn write_lines(area: u64, links: &[Link], buffer: &mut [u8]) -> usize
+    requires { length (listing_of area links.now) ≤ length buffer.old }
+    ensures { Put buffer.old 0 (listing_of area links.now) buffer.new result }
+{
+    let mut pen = Pen { out: buffer, at: 0 };
+    pen.put_listing(area, links);
+    pen.at
 }
 
 // Writes the plan of a sheet into a buffer, and answers how many bytes it takes.
@@ -85,6 +104,5 @@ pub fn list<R: Ruler>(sheet: &Sheet<R>, buffer: &mut [u8]) -> Result<usize, Refu
     if length > buffer.len() {
         return Err(Refusal::TextTooLong);
     }
-    let at = put_area(buffer, plan.area);
-    Ok(put_links(buffer, at, links))
+    Ok(write_lines(plan.area, links, buffer))
 }

@@ -1,6 +1,0 @@
-use Rattle.std.proofs.Common.{arith}
-use Rattle.listing.proofs.Placing.{put_then}
-use Rattle.listing.proofs.numbers.put_letter.Goals as goal
-
-pub returns : goal.returns
-returns c = put_then (omega arith) c.put_byte-next.ensures c.put_byte.ensures

@@ -1,6 +1,0 @@
-use Rattle.std.proofs.Common.{arith}
-use Rattle.listing.proofs.Listed.{put_filled}
-use Rattle.listing.proofs.numbers.replies.list_refusal.Goals as goal
-
-pub returns-clause-holds : goal.returns-clause-holds
-returns-clause-holds c = put_filled _ c.args.buffer.now _ _ (omega arith) c.put_refusal.ensures
