@@ -3,4 +3,5 @@ pub mod Every
 mod Growing
 mod Routes
 pub mod Sums
+pub mod Within
 mod Writes

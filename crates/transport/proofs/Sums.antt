@@ -1,10 +1,15 @@
 -- Sums over the numbers below a limit.
-use Rattle.std.proofs.Common.{◌≡◌, ℕ, zero, suc, ◌+◌, ◌*◌, ◌<◌, ◌≤◌, refl, ⊎_elim, add-one, arith}
+use Rattle.std.proofs.Common.{◌≡◌, ℕ, zero, suc, ◌+◌, ◌*◌, ◌<◌, ◌≤◌, List, length, take, sum, refl, sym, ap, ◌∙◌, ⊎_elim, add-one, arith}
 use Rattle.std.proofs.lemmas.Bool.{cases_eq, cases_lt}
-use Rattle.transport.specs.Transport.{sum_to}
+use Rattle.std.proofs.lemmas.List.Sums.{sum_by_more}
+use Rattle.transport.specs.Transport.{at, sum_to}
 
-pub sum_more : (g : ℕ → ℕ) (i : ℕ) → sum_to g (i + 1) ≡ sum_to g i + g i
-sum_more g i = rw add-one refl
+-- the first numbers of a row
+pub sum_take : (xs : List ℕ) (n : ℕ) → n ≤ length xs → sum_to (at xs) n ≡ sum (take n xs)
+sum_take xs zero l = refl
+sum_take xs (suc n) l =
+    let more = rw add-one at (sum_by_more (λ x. x) xs n 0 (omega arith)) in
+    ap (λ s. s + at xs n) (sum_take xs n (omega arith)) ∙ sym more
 
 pub sum_same : (g h : ℕ → ℕ) (n : ℕ) → ((k : ℕ) → k < n → h k ≡ g k) → sum_to h n ≡ sum_to g n
 sum_same g h zero e = refl

@@ -1,6 +1,8 @@
 // What is asked: how much each source has, how much each sink wants, and what a unit costs from one to the other.
-ghost use Rattle.std.specs.Prelude.{◌≡◌, ◌+◌, ◌*◌, ◌<◌, ◌≤◌, nat_le};
-ghost use Rattle.transport.specs.Transport.{at, each, sum_to, cost_of, amounts_fit, costs_fit, within};
+ghost use Rattle.std.specs.Prelude.{◌≡◌, ◌+◌, ◌*◌, ◌≤◌, length, sum, slice_range};
+ghost use Rattle.std.specs.List.{list_all, range_with_len};
+ghost use Rattle.transport.specs.Transport.{within};
+ghost use Rattle.transport.specs.Limits.{fit};
 
 // The cost from source i to sink j stands at 64 * i + j. What stands past the sources and the sinks is not read.
 #[derive(Clone, Copy)]
@@ -12,54 +14,25 @@ pub struct Case {
     pub cost: [u32; 4096],
 }
 
-// Whether each amount is at most 1,000,000.
-fn amounts_fit(amounts: &[u32; 64], count: usize) -> bool
-    requires { count ≤ 64 }
-    ensures { result ≡ amounts_fit amounts.now count }
+fn fit(numbers: &[u32], most: u32) -> bool
+    ensures { result ≡ fit numbers.now most }
 {
-    for i in 0..count {
-        if amounts[i] > 1_000_000 {
-            return false;
-        }
-    }
-    true
+    numbers.iter().all(|number| *number <= most)
 }
 
-fn total(amounts: &[u32; 64], count: usize) -> u64
-    requires { count ≤ 64 }
-    ensures { result ≡ sum_to (at amounts.now) count }
+fn total(amounts: &[u32]) -> u64
+    requires { length amounts.now ≤ 64 }
+    ensures { result ≡ sum amounts.now }
 {
-    let mut sum: u64 = 0;
-    for i in 0..count {
-        sum += u64::from(amounts[i]);
-    }
-    sum
+    amounts.iter().map(|amount| u64::from(*amount)).sum()
 }
 
 impl Case {
-    // Whether each cost of a source is at most 4,000,000.
-    fn costs_fit_from(&self, source: usize) -> bool
-        requires { (source < 64) × (self.now.sinks ≤ 64) }
-        ensures { result ≡ each (λ j. nat_le (cost_of self.now source j) 4000000) self.now.sinks }
-    {
-        for j in 0..self.sinks {
-            if self.cost[64 * source + j] > 4_000_000 {
-                return false;
-            }
-        }
-        true
-    }
-
     fn costs_fit(&self) -> bool
         requires { (self.now.sources ≤ 64) × (self.now.sinks ≤ 64) }
-        ensures { result ≡ costs_fit self.now }
+        ensures { result ≡ list_all (λ i. fit (slice_range self.now.cost (64 * i) (64 * i + self.now.sinks)) 4000000) (range_with_len 0 self.now.sources) }
     {
-        for i in 0..self.sources {
-            if !self.costs_fit_from(i) {
-                return false;
-            }
-        }
-        true
+        (0..self.sources).all(|i| fit(&self.cost[64 * i..64 * i + self.sinks], 4_000_000))
     }
 
     // Whether the case is within the limits, so that it has a plan.
@@ -68,9 +41,9 @@ impl Case {
     {
         self.sources <= 64
             && self.sinks <= 64 - self.sources
-            && amounts_fit(&self.supply, self.sources)
-            && amounts_fit(&self.demand, self.sinks)
+            && fit(&self.supply[..self.sources], 1_000_000)
+            && fit(&self.demand[..self.sinks], 1_000_000)
             && self.costs_fit()
-            && total(&self.supply, self.sources) == total(&self.demand, self.sinks)
+            && total(&self.supply[..self.sources]) == total(&self.demand[..self.sinks])
     }
 }
