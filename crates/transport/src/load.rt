@@ -28,9 +28,9 @@ fn neediest(want: &[u32; 64], count: usize) -> Option<usize>
 {
     let mut found = None;
     let mut most = 0;
-    for j in 0..count {
-        if want[j] > most {
-            most = want[j];
+    for (j, &want) in want[..count].iter().enumerate() {
+        if want > most {
+            most = want;
             found = Some(j);
         }
     }
