@@ -1,13 +1,13 @@
 -- How a tree grows: from its root, by sinks that join, by raised marks and by closed sources.
-use Rattle.std.proofs.Common.{◌≡◌, ℕ, ◌+◌, ◌<◌, ◌≤◌, min, max, ◌⊎◌, List, length, refl, ap, ◌∙◌, subst, inl, inr, ⊎_elim, arith, below_more}
+use Rattle.std.proofs.Common.{◌≡◌, ℕ, ◌+◌, ◌*◌, ◌<◌, ◌≤◌, min, max, ◌⊎◌, List, length, refl, ap, ◌∙◌, subst, inl, inr, ⊎_elim, arith, below_more}
 use Rattle.std.proofs.lemmas.Bool.{cases_eq}
-use Rattle.transport.proofs.Sums.{sum_change}
+use Rattle.transport.proofs.Sums.{sum_change, sum_some, sum_open}
 use Rattle.transport.specs.declared.case.Case.{Case}
 use Rattle.transport.specs.declared.load.Marks.{Marks}
 use Rattle.transport.specs.declared.load.Load.{Load}
 use Rattle.transport.specs.declared.load.tree.Tree.{Tree}
 use Rattle.transport.specs.Transport.{at, cell, cost_of, sum_to}
-use Rattle.transport.specs.Solver.{Limited, Marked, Tied, Back, Grown, Joined, Absorbed, Relaxed, Nearer, Put, RaisedSources, RaisedSinks, Nearest}
+use Rattle.transport.specs.Solver.{Limited, Marked, Tied, Back, Grown, Joined, Absorbed, Relaxed, Nearer, Put, Raised, Lowered, Nearest, Rising, Tightened}
 
 -- a source without slack is left as it was
 pub relaxed_none : (case : Case) (marks : Marks) (sink : ℕ) (slack toward slack' toward' : List ℕ) (i : ℕ) → Nearer case marks sink slack toward slack' toward' i → at slack i ≡ 0 → (at slack' i ≡ 0) × (at toward' i ≡ at toward i)
@@ -221,14 +221,6 @@ module _ (case : Case) (marks : Marks) (load : Load) (source round : ℕ) (tree 
             rooms = before.rooms;
           }
 
--- how far the marks can rise: by the slack of a source that is not closed, the least of those
-pub record Rising (case : Case) (marks : Marks) (tree : Tree) (source : ℕ) : Type 0 where
-  pub inside : source < case.sources
-  pub still : at tree.closed source ≡ 0
-  pub low : (i : ℕ) → i < case.sources → at tree.closed i ≡ 0 → at tree.slack source ≤ at tree.slack i
-  pub sources : (i : ℕ) → i < case.sources → 0 < at tree.closed i → at marks.source i + at tree.slack source ≤ 4000000
-  pub sinks : (j : ℕ) → j < case.sinks → 0 < at tree.round j → at marks.sink j + at tree.slack source ≤ 4000000
-
 module _ (case : Case) (marks : Marks) (load : Load) (limited : Limited case) (marked : Marked case marks) (tied : Tied case marks load) where
   -- what a source that still has something says of a tree: it is not closed, and it bounds what the marks can rise
   module _ (tree : Tree) (g : Grown case marks load tree) (spare : ℕ) (inside : spare < case.sources) (stocked : 0 < at load.stock spare) where
@@ -256,30 +248,47 @@ module _ (case : Case) (marks : Marks) (load : Load) (limited : Limited case) (m
         let below : at tree.slack source ≤ at tree.slack spare = picked.1 spare inside spare_still in
         record { inside = near.inside; still = picked.0; low = picked.1; sources = source_rises (at tree.slack source) below; sinks = sink_rises (at tree.slack source) below }
 
+  -- some source still has something, so the marks can rise
+  pub can_rise : (tree : Tree) (source : ℕ) → Grown case marks load tree → 0 < sum_to (at load.stock) case.sources → Nearest tree.slack tree.closed case.sources source → Rising case marks tree source
+  can_rise tree source g stocked near =
+      let spare = sum_some (at load.stock) case.sources stocked in
+      rising tree g spare.0 spare.1 spare.2 source near
+
+  -- so not every source is closed
+  pub some_open : (tree : Tree) → Grown case marks load tree → 0 < sum_to (at load.stock) case.sources → sum_to (at tree.closed) case.sources ≡ 4294967295 * case.sources → ⊥
+  some_open tree g stocked all =
+      let spare = sum_some (at load.stock) case.sources stocked in
+      let still = spare_still tree g spare.0 spare.1 spare.2 in
+      omega (arith, sum_open (at tree.closed) case.sources spare.0 spare.1 still (λ k l. elim (g.flag k l) [ inl e ↦ omega (arith, e) | inr e ↦ omega (arith, e) ]))
+
+  -- a source that is tight as it stands
+  pub tightened_already : (tree : Tree) (source : ℕ) → Grown case marks load tree → Rising case marks tree source → at tree.slack source ≡ 0 → Tightened case load source tree marks tree
+  tightened_already tree source g rise none =
+      record { marked = marked; tied = tied; grown = g; inside = rise.inside; slack = none; still = rise.still; closed = refl; round = refl; root = refl }
+
   pub raised :
       (source root : ℕ) (slack toward closed round parent room source' slack' sink' : List ℕ)
       → Grown case marks load (record { root = root; slack = slack; toward = toward; closed = closed; round = round; parent = parent; room = room })
       → Rising case marks (record { root = root; slack = slack; toward = toward; closed = closed; round = round; parent = parent; room = room }) source
-      → RaisedSources closed case.sources (at slack source) marks.source slack source' slack'
-      → RaisedSinks round case.sinks (at slack source) marks.sink sink'
-      → Marked case (record { source = source'; sink = sink' })
-      × Tied case (record { source = source'; sink = sink' }) load
-      × Grown case (record { source = source'; sink = sink' }) load (record { root = root; slack = slack'; toward = toward; closed = closed; round = round; parent = parent; room = room })
-      × (at slack' source ≡ 0)
-  raised source root slack toward closed round parent room source' slack' sink' g rise sources sinks = (marked', tied', grown', omega (arith, (sources.still source rise.inside rise.still).1))
+      → Raised (at closed) case.sources (at slack source) marks.source source'
+      → Lowered (at closed) case.sources (at slack source) slack slack'
+      → Raised (at round) case.sinks (at slack source) marks.sink sink'
+      → Tightened case load source (record { root = root; slack = slack; toward = toward; closed = closed; round = round; parent = parent; room = room }) (record { source = source'; sink = sink' }) (record { root = root; slack = slack'; toward = toward; closed = closed; round = round; parent = parent; room = room })
+  raised source root slack toward closed round parent room source' slack' sink' g rise sources slacks sinks =
+      record { marked = marked'; tied = tied'; grown = grown'; inside = rise.inside; slack = omega (arith, slacks.lowered source rise.inside rise.still); still = rise.still; closed = refl; round = refl; root = refl }
     where
       of_source : (i : ℕ) → i < case.sources → ((at closed i ≡ 0) × (at source' i ≡ at marks.source i) × (at slack' i + at slack source ≡ at slack i)) ⊎ ((0 < at closed i) × (at source' i ≡ at marks.source i + at slack source) × (at slack' i ≡ at slack i))
       of_source i l =
           ⊎_elim
-          (λ (e : at closed i ≡ 0). inl (e, (sources.still i l e).0, (sources.still i l e).1))
-          (λ (ne : at closed i ≡ 0 → ⊥). let c : 0 < at closed i = omega arith in inr (c, (sources.shut i l c).0, (sources.shut i l c).1))
+          (λ (e : at closed i ≡ 0). inl (e, sources.still i l e, slacks.lowered i l e))
+          (λ (ne : at closed i ≡ 0 → ⊥). let c : 0 < at closed i = omega arith in inr (c, sources.raised i l c, slacks.still i l c))
           (cases_eq (at closed i) 0)
 
       of_sink : (j : ℕ) → j < case.sinks → ((at round j ≡ 0) × (at sink' j ≡ at marks.sink j)) ⊎ ((0 < at round j) × (at sink' j ≡ at marks.sink j + at slack source))
       of_sink j l =
           ⊎_elim
           (λ (e : at round j ≡ 0). inl (e, sinks.still j l e))
-          (λ (ne : at round j ≡ 0 → ⊥). let m : 0 < at round j = omega arith in inr (m, sinks.reached j l m))
+          (λ (ne : at round j ≡ 0 → ⊥). let m : 0 < at round j = omega arith in inr (m, sinks.raised j l m))
           (cases_eq (at round j) 0)
 
       fair : (i j : ℕ) → i < case.sources → j < case.sinks → at sink' j ≤ at source' i + cost_of case i j
@@ -304,8 +313,8 @@ module _ (case : Case) (marks : Marks) (load : Load) (limited : Limited case) (m
             fair = fair;
             source_marks = λ i l. elim (of_source i l) [ inl s ↦ omega (arith, s.1, marked.source_marks i l) | inr s ↦ omega (arith, s.1, rise.sources i l s.0) ];
             sink_marks = λ j l. elim (of_sink j l) [ inl t ↦ omega (arith, t.1, marked.sink_marks j l) | inr t ↦ omega (arith, t.1, rise.sinks j l t.0) ];
-            sources = sources.sources;
-            sinks = sinks.sinks;
+            sources = sources.size;
+            sinks = sinks.size;
           }
 
       tied' : Tied case (record { source = source'; sink = sink' }) load
@@ -325,11 +334,11 @@ module _ (case : Case) (marks : Marks) (load : Load) (limited : Limited case) (m
             met = g.met;
             gap =
                 λ i l.
-                let lifted : at sink' (at toward i) ≡ at marks.sink (at toward i) + at slack source = sinks.reached (at toward i) (g.inside i l) (g.met i l) in
+                let lifted : at sink' (at toward i) ≡ at marks.sink (at toward i) + at slack source = sinks.raised (at toward i) (g.inside i l) (g.met i l) in
                 elim (of_source i l) [ inl s ↦ omega (arith, s.1, s.2, g.gap i l) | inr s ↦ omega (arith, s.1, s.2, g.gap i l) ];
             least =
                 λ i j li lj m.
-                let lifted : at sink' j ≡ at marks.sink j + at slack source = sinks.reached j lj m in
+                let lifted : at sink' j ≡ at marks.sink j + at slack source = sinks.raised j lj m in
                 elim (of_source i li) [ inl s ↦ omega (arith, s.1, s.2, g.least i j li lj m) | inr s ↦ omega (arith, s.1, s.2, g.least i j li lj m) ];
             flag = g.flag;
             shut_slack = λ i l c. slack_stays i l (g.shut_slack i l c);
@@ -340,7 +349,7 @@ module _ (case : Case) (marks : Marks) (load : Load) (limited : Limited case) (m
             root_inside = g.root_inside;
             root_met = g.root_met;
             root_room = g.root_room;
-            slacks = sources.slacks;
+            slacks = slacks.size;
             towards = g.towards;
             closeds = g.closeds;
             rounds = g.rounds;

@@ -60,16 +60,17 @@ pub record Nearest (slack closed : List ℕ) (count source : ℕ) : Type 0 where
   pub inside : source < count
   pub least : (k : ℕ) → k < count → max (at slack source) (at closed source) ≤ max (at slack k) (at closed k)
 
-pub record RaisedSources (closed : List ℕ) (count by : ℕ) (source slack source' slack' : List ℕ) : Type 0 where
-  pub shut : (i : ℕ) → i < count → 0 < at closed i → (at source' i ≡ at source i + by) × (at slack' i ≡ at slack i)
-  pub still : (i : ℕ) → i < count → at closed i ≡ 0 → (at source' i ≡ at source i) × (at slack' i + by ≡ at slack i)
-  pub sources : length source' ≡ 64
-  pub slacks : length slack' ≡ 64
+-- marks after those were raised that are in the tree
+pub record Raised (inside : ℕ → ℕ) (count by : ℕ) (mark mark' : List ℕ) : Type 0 where
+  pub raised : (k : ℕ) → k < count → 0 < inside k → at mark' k ≡ at mark k + by
+  pub still : (k : ℕ) → k < count → inside k ≡ 0 → at mark' k ≡ at mark k
+  pub size : length mark' ≡ 64
 
-pub record RaisedSinks (round : List ℕ) (count by : ℕ) (sink sink' : List ℕ) : Type 0 where
-  pub reached : (j : ℕ) → j < count → 0 < at round j → at sink' j ≡ at sink j + by
-  pub still : (j : ℕ) → j < count → at round j ≡ 0 → at sink' j ≡ at sink j
-  pub sinks : length sink' ≡ 64
+-- slacks after those were lowered that are not closed
+pub record Lowered (closed : ℕ → ℕ) (count by : ℕ) (slack slack' : List ℕ) : Type 0 where
+  pub lowered : (k : ℕ) → k < count → closed k ≡ 0 → at slack' k + by ≡ at slack k
+  pub still : (k : ℕ) → k < count → 0 < closed k → at slack' k ≡ at slack k
+  pub size : length slack' ≡ 64
 
 -- one number of a row was written
 pub record Put (old new : List ℕ) (k x : ℕ) : Type 0 where
@@ -124,6 +125,26 @@ pub record Absorbed (case : Case) (marks : Marks) (load : Load) (round : ℕ) (t
   pub grown : Grown case marks load tree'
   pub early : (j : ℕ) → j < case.sinks → at tree'.round j ≤ round
   pub closed : sum_to (at tree'.closed) case.sources ≡ sum_to (at tree.closed) case.sources + 4294967295
+  pub root : tree'.root ≡ tree.root
+
+-- how far the marks can rise: by the slack of a source that is not closed, the least of those
+pub record Rising (case : Case) (marks : Marks) (tree : Tree) (source : ℕ) : Type 0 where
+  pub inside : source < case.sources
+  pub still : at tree.closed source ≡ 0
+  pub low : (i : ℕ) → i < case.sources → at tree.closed i ≡ 0 → at tree.slack source ≤ at tree.slack i
+  pub sources : (i : ℕ) → i < case.sources → 0 < at tree.closed i → at marks.source i + at tree.slack source ≤ 4000000
+  pub sinks : (j : ℕ) → j < case.sinks → 0 < at tree.round j → at marks.sink j + at tree.slack source ≤ 4000000
+
+-- marks and tree after they rose until a source was tight
+pub record Tightened (case : Case) (load : Load) (source : ℕ) (tree : Tree) (marks' : Marks) (tree' : Tree) : Type 0 where
+  pub marked : Marked case marks'
+  pub tied : Tied case marks' load
+  pub grown : Grown case marks' load tree'
+  pub inside : source < case.sources
+  pub slack : at tree'.slack source ≡ 0
+  pub still : at tree'.closed source ≡ 0
+  pub closed : tree'.closed ≡ tree.closed
+  pub round : tree'.round ≡ tree.round
   pub root : tree'.root ≡ tree.root
 
 -- the source at which a tree ends

@@ -2,7 +2,7 @@
 // to a source that still has something.
 ghost use Rattle.std.specs.Prelude.{◌≡◌, ℕ, ◌+◌, ◌<◌, ◌≤◌};
 ghost use Rattle.transport.specs.Transport.{at, cell, sum_to};
-ghost use Rattle.transport.specs.Solver.{Limited, Marked, Tied, Grown, Joined, Absorbed, Found, Relaxed, RaisedSources, RaisedSinks, Nearest};
+ghost use Rattle.transport.specs.Solver.{Limited, Marked, Tied, Grown, Joined, Absorbed, Found, Relaxed, Raised, Lowered, Nearest, Rising, Tightened};
 
 use crate::case::Case;
 use crate::load::{Load, Marks};
@@ -33,11 +33,11 @@ fn relax(case: &Case, marks: &Marks, slack: &mut [u32; 64], toward: &mut [u32; 6
     ensures { Relaxed case.now marks.now sink slack.old toward.old slack.new toward.new }
 {
     let mark = marks.sink[sink];
-    for i in 0..case.sources {
+    for (i, slack) in slack[..case.sources].iter_mut().enumerate() {
         let gap = marks.source[i] + case.cost[64 * i + sink] - mark;
-        let was = slack[i];
+        let was = *slack;
         let there = toward[i];
-        slack[i] = if gap < was { gap } else { was };
+        *slack = if gap < was { gap } else { was };
         toward[i] = if gap < was { sink as u32 } else { there };
     }
 }
@@ -48,9 +48,9 @@ fn nearest(slack: &[u32; 64], closed: &[u32; 64], count: usize) -> usize
     ensures { Nearest slack.now closed.now count result }
 {
     let mut source = 0;
-    let mut least = slack[0].max(closed[0]);
-    for i in 1..count {
-        let here = slack[i].max(closed[i]);
+    let mut least = u32::MAX;
+    for (i, slack) in slack[..count].iter().enumerate() {
+        let here = (*slack).max(closed[i]);
         if here < least {
             least = here;
             source = i;
@@ -59,32 +59,36 @@ fn nearest(slack: &[u32; 64], closed: &[u32; 64], count: usize) -> usize
     source
 }
 
-// Raises the marks of the closed sources, and lowers the slack of the others.
-fn raise_sources(
-    source: &mut [u32; 64],
-    slack: &mut [u32; 64],
-    closed: &[u32; 64],
-    count: usize,
-    by: u32,
-)
-    requires { (count ≤ 64) × ((((i : ℕ) → i < count → at closed.now i ≡ 0 → by ≤ at slack.old i)) × (((i : ℕ) → i < count → 0 < at closed.now i → at source.old i + by ≤ 4000000))) }
-    ensures { RaisedSources closed.now count by source.old slack.old source.new slack.new }
+// Raises the marks of the closed sources.
+fn raise_sources(source: &mut [u32; 64], closed: &[u32; 64], count: usize, by: u32)
+    requires { (count ≤ 64) × (((i : ℕ) → i < count → 0 < at closed.now i → at source.old i + by ≤ 4000000)) }
+    ensures { Raised (at closed.now) count by source.old source.new }
 {
-    for i in 0..count {
+    for (i, source) in source[..count].iter_mut().enumerate() {
         let rise = if closed[i] == 0 { 0 } else { by };
-        source[i] += rise;
-        slack[i] -= by - rise;
+        *source += rise;
+    }
+}
+
+// Lowers the slack of the other sources.
+fn lower_slacks(slack: &mut [u32; 64], closed: &[u32; 64], count: usize, by: u32)
+    requires { (count ≤ 64) × (((i : ℕ) → i < count → at closed.now i ≡ 0 → by ≤ at slack.old i)) }
+    ensures { Lowered (at closed.now) count by slack.old slack.new }
+{
+    for (i, slack) in slack[..count].iter_mut().enumerate() {
+        let fall = if closed[i] == 0 { by } else { 0 };
+        *slack -= fall;
     }
 }
 
 // Raises the marks of the reached sinks.
 fn raise_sinks(sink: &mut [u32; 64], round: &[u32; 64], count: usize, by: u32)
     requires { (count ≤ 64) × (((j : ℕ) → j < count → 0 < at round.now j → at sink.old j + by ≤ 4000000)) }
-    ensures { RaisedSinks round.now count by sink.old sink.new }
+    ensures { Raised (at round.now) count by sink.old sink.new }
 {
-    for j in 0..count {
+    for (j, sink) in sink[..count].iter_mut().enumerate() {
         let rise = if round[j] == 0 { 0 } else { by };
-        sink[j] += rise;
+        *sink += rise;
     }
 }
 
@@ -154,6 +158,21 @@ impl Tree {
         self.closed[source] = u32::MAX;
     }
 
+    // Raises the marks in the tree until a source is tight with it, and lowers the slack of the sources outside as much.
+    fn raise(&mut self, case: &Case, marks: &mut Marks, load: &Load, source: usize)
+        requires known { (Limited case.now) × ((Marked case.now marks.old) × ((Tied case.now marks.old load.now) × (Grown case.now marks.old load.now self.old))) }
+        requires rises { Rising case.now marks.old self.old source }
+        ensures { Tightened case.now load.now source self.old marks.new self.new }
+    {
+        let by = self.slack[source];
+        if by == 0 {
+            return;
+        }
+        raise_sources(&mut marks.source, &self.closed, case.sources, by);
+        lower_slacks(&mut self.slack, &self.closed, case.sources, by);
+        raise_sinks(&mut marks.sink, &self.round, case.sinks, by);
+    }
+
     // Grows the tree to a source that has something left, and raises the marks so that it is tight.
     fn grow(&mut self, case: &Case, marks: &mut Marks, load: &Load) -> usize
         requires known { (Limited case.now) × ((Marked case.now marks.old) × ((Tied case.now marks.old load.now) × (Grown case.now marks.old load.now self.old))) }
@@ -163,15 +182,7 @@ impl Tree {
     {
         for n in 0..case.sources {
             let source = nearest(&self.slack, &self.closed, case.sources);
-            let by = self.slack[source];
-            raise_sources(
-                &mut marks.source,
-                &mut self.slack,
-                &self.closed,
-                case.sources,
-                by,
-            );
-            raise_sinks(&mut marks.sink, &self.round, case.sinks, by);
+            self.raise(case, marks, load, source);
             if load.stock[source] > 0 {
                 return source;
             }
