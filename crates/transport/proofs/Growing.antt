@@ -1,13 +1,15 @@
 -- How a tree grows: from its root, by sinks that join, by raised marks and by closed sources.
-use Rattle.std.proofs.Common.{◌≡◌, ℕ, ◌+◌, ◌*◌, ◌<◌, ◌≤◌, min, max, ◌⊎◌, List, length, refl, ap, ◌∙◌, subst, inl, inr, ⊎_elim, arith, below_more}
+use Rattle.std.proofs.Common.{◌≡◌, ℕ, ◌+◌, ◌*◌, ◌<◌, ◌≤◌, min, max, ◌⊎◌, Option, None, List, length, replicate, refl, ap, ◌∙◌, subst, inl, inr, ⊎_elim, arith, below_more}
 use Rattle.std.proofs.lemmas.Bool.{cases_eq}
+use Rattle.transport.proofs.Writes.{met_none}
 use Rattle.transport.proofs.Sums.{sum_change, sum_some, sum_open}
 use Rattle.transport.specs.declared.case.Case.{Case}
 use Rattle.transport.specs.declared.load.Marks.{Marks}
 use Rattle.transport.specs.declared.load.Load.{Load}
+use Rattle.transport.specs.declared.load.tree.Reached.{Reached}
 use Rattle.transport.specs.declared.load.tree.Tree.{Tree}
 use Rattle.transport.specs.Transport.{at, cell, cost_of, sum_to}
-use Rattle.transport.specs.Solver.{Limited, Marked, Tied, Back, Grown, Joined, Absorbed, Relaxed, Nearer, Put, Raised, Lowered, Nearest, Rising, Tightened}
+use Rattle.transport.specs.Solver.{round_of, parent_of, room_of, round_at, parent_at, room_at, Met, Limited, Marked, Tied, Back, Grown, Joined, Absorbed, Relaxed, Nearer, Put, Raised, Lowered, Nearest, Rising, Tightened}
 
 -- a source without slack is left as it was
 pub relaxed_none : (case : Case) (marks : Marks) (sink : ℕ) (slack toward slack' toward' : List ℕ) (i : ℕ) → Nearer case marks sink slack toward slack' toward' i → at slack i ≡ 0 → (at slack' i ≡ 0) × (at toward' i ≡ at toward i)
@@ -16,43 +18,39 @@ relaxed_none case marks sink slack toward slack' toward' i near none =
     (λ (less : (at toward' i ≡ sink) × (at marks.sink sink + at slack' i ≡ at marks.source i + cost_of case i sink) × (at slack' i < at slack i)). absurd (let z : ⊥ = omega (arith, less.2) in z))
     near
 
-pub back_by : (case : Case) (flow : List ℕ) (tree : Tree) (j p t : ℕ) → at tree.parent j ≡ p → at tree.toward p ≡ t → p < case.sources → at tree.slack p ≡ 0 → at tree.room j ≤ cell flow p j → at tree.room j ≤ at tree.room t → at tree.round t < at tree.round j → Back case flow tree j
+pub back_by : (case : Case) (flow : List ℕ) (tree : Tree) (j p t : ℕ) → parent_at tree.reached j ≡ p → at tree.toward p ≡ t → p < case.sources → at tree.slack p ≡ 0 → room_at tree.reached j ≤ cell flow p j → room_at tree.reached j ≤ room_at tree.reached t → round_at tree.reached t < round_at tree.reached j → Back case flow tree j
 back_by case flow tree j p t parent toward inside slack served room round =
     record { inside = rw parent inside; slack = rw parent slack; served = rw parent served; room = rw (parent, toward) room; round = rw (parent, toward) round }
 
 module _ (case : Case) (marks : Marks) (load : Load) (limited : Limited case) (marked : Marked case marks) where
   -- the root alone is reached
   pub rooted :
-      (root : ℕ) (slack toward closed round parent room slack' toward' : List ℕ)
+      (root : ℕ) (slack toward closed slack' toward' : List ℕ) (reached : List (Option Reached))
       → root < case.sinks → 0 < at load.want root
       → ((i : ℕ) → i < case.sources → at slack i ≡ 4294967295)
       → ((i : ℕ) → at closed i ≡ 0) → length closed ≡ 64
-      → ((j : ℕ) → (j ≡ root → ⊥) → at round j ≡ 0) → at round root ≡ 1 → length round ≡ 64
-      → length parent ≡ 64
-      → at room root ≡ at load.want root → length room ≡ 64
+      → Met (replicate 64 None) reached root (record { round = 0; parent = 0; room = at load.want root })
       → Relaxed case marks root slack toward slack' toward'
-      → Grown case marks load (record { root = root; slack = slack'; toward = toward'; closed = closed; round = round; parent = parent; room = room })
-  rooted root slack toward closed round parent room slack' toward' lr wants far still closeds others one rounds parents room_is rooms relaxed =
+      → Grown case marks load (record { root = root; slack = slack'; toward = toward'; closed = closed; reached = reached })
+  rooted root slack toward closed slack' toward' reached lr wants far still closeds met relaxed =
       record {
         inside = λ i l. omega (arith, (near i l).0);
-        met = λ i l. rw (near i l).0 (omega arith);
+        met = λ i l. rw (near i l).0 (omega (arith, one));
         gap = λ i l. rw (near i l).0 (near i l).1;
         least = λ i j li lj m. rw (only j m) (omega (arith, (near i li).1));
         flag = λ i l. inl (still i);
         shut_slack = λ i l c. absurd (let z : ⊥ = omega (arith, still i) in z);
         shut_stock = λ i l c. absurd (let z : ⊥ = omega (arith, still i) in z);
         shut_served = λ i j li lj c f. absurd (let z : ⊥ = omega (arith, still i) in z);
-        roomy = λ j lj m. rw (only j m) (omega arith);
+        roomy = λ j lj m. rw (only j m) (omega (arith, room_is));
         back = λ j lj m ne. absurd (ne (only j m));
         root_inside = lr;
-        root_met = omega arith;
+        root_met = omega (arith, one);
         root_room = room_is;
         slacks = relaxed.slacks;
         towards = relaxed.towards;
         closeds = closeds;
-        rounds = rounds;
-        parents = parents;
-        rooms = rooms;
+        reacheds = met.size;
       }
     where
       near : (i : ℕ) → i < case.sources → (at toward' i ≡ root) × (at marks.sink root + at slack' i ≡ at marks.source i + cost_of case i root)
@@ -62,37 +60,62 @@ module _ (case : Case) (marks : Marks) (load : Load) (limited : Limited case) (m
             | inr s ↦ (s.0, s.1)
           ]
 
-      only : (j : ℕ) → 0 < at round j → j ≡ root
+      one : round_at reached root ≡ 1
+      one = ap round_of met.here
+
+      room_is : room_at reached root ≡ at load.want root
+      room_is = ap room_of met.here
+
+      others : (j : ℕ) → (j ≡ root → ⊥) → round_at reached j ≡ 0
+      others j ne = ap round_of (met.rest j ne ∙ met_none 64 j)
+
+      only : (j : ℕ) → 0 < round_at reached j → j ≡ root
       only j m = ⊎_elim (λ (e : j ≡ root). e) (λ (ne : j ≡ root → ⊥). absurd (let z : ⊥ = omega (arith, others j ne) in z)) (cases_eq j root)
 
   pub joined :
-      (root source sink n : ℕ) (slack toward closed round parent room slack' toward' round' parent' room' : List ℕ)
-      → Grown case marks load (record { root = root; slack = slack; toward = toward; closed = closed; round = round; parent = parent; room = room })
+      (root source sink n : ℕ) (slack toward closed slack' toward' : List ℕ) (reached reached' : List (Option Reached))
+      → Grown case marks load (record { root = root; slack = slack; toward = toward; closed = closed; reached = reached })
       → source < case.sources → sink < case.sinks → at slack source ≡ 0 → 0 < cell load.flow source sink
-      → at round sink ≡ 0 → at round (at toward source) < n
-      → Put room room' sink (min (at room (at toward source)) (cell load.flow source sink))
-      → Put round round' sink n
-      → Put parent parent' sink source
+      → round_at reached sink ≡ 0 → round_at reached (at toward source) ≤ n
+      → Met reached reached' sink (record { round = n; parent = source; room = min (room_at reached (at toward source)) (cell load.flow source sink) })
       → Relaxed case marks sink slack toward slack' toward'
-      → Joined case marks load source sink n (record { root = root; slack = slack; toward = toward; closed = closed; round = round; parent = parent; room = room }) (record { root = root; slack = slack'; toward = toward'; closed = closed; round = round'; parent = parent'; room = room' })
-  joined root source sink n slack toward closed round parent room slack' toward' round' parent' room' g si sj none serves anew below putRoom putRound putParent relaxed =
-      record { grown = grown; reached = putRound.here; others = putRound.rest; closed = refl; root = refl; slack = (kept source si none).0; toward = (kept source si none).1 }
+      → Joined case marks load source sink (n + 1) (record { root = root; slack = slack; toward = toward; closed = closed; reached = reached }) (record { root = root; slack = slack'; toward = toward'; closed = closed; reached = reached' })
+  joined root source sink n slack toward closed slack' toward' reached reached' g si sj none serves anew below met relaxed =
+      record { grown = grown; reached = round_here; others = round_rest; closed = refl; root = refl; slack = (kept source si none).0; toward = (kept source si none).1 }
     where
       kept : (i : ℕ) → i < case.sources → at slack i ≡ 0 → (at slack' i ≡ 0) × (at toward' i ≡ at toward i)
       kept i l e = relaxed_none case marks sink slack toward slack' toward' i (relaxed.near i l) e
 
+      round_here : round_at reached' sink ≡ n + 1
+      round_here = ap round_of met.here
+
+      parent_here : parent_at reached' sink ≡ source
+      parent_here = ap parent_of met.here
+
+      room_here : room_at reached' sink ≡ min (room_at reached (at toward source)) (cell load.flow source sink)
+      room_here = ap room_of met.here
+
+      round_rest : (j : ℕ) → (j ≡ sink → ⊥) → round_at reached' j ≡ round_at reached j
+      round_rest j ne = ap round_of (met.rest j ne)
+
+      parent_rest : (j : ℕ) → (j ≡ sink → ⊥) → parent_at reached' j ≡ parent_at reached j
+      parent_rest j ne = ap parent_of (met.rest j ne)
+
+      room_rest : (j : ℕ) → (j ≡ sink → ⊥) → room_at reached' j ≡ room_at reached j
+      room_rest j ne = ap room_of (met.rest j ne)
+
       -- a reached sink is another, and stays
-      other : (j : ℕ) → 0 < at round j → j ≡ sink → ⊥
-      other j m e = let P : ℕ → Type 0 = λ k. 0 < at round k in let z : 0 < at round sink = subst P e m in omega arith
+      other : (j : ℕ) → 0 < round_at reached j → j ≡ sink → ⊥
+      other j m e = let P : ℕ → Type 0 = λ k. 0 < round_at reached k in let z : 0 < round_at reached sink = subst P e m in omega arith
 
-      stays : (j : ℕ) → 0 < at round j → 0 < at round' j
-      stays j m = omega (arith, putRound.rest j (other j m))
+      stays : (j : ℕ) → 0 < round_at reached j → 0 < round_at reached' j
+      stays j m = omega (arith, round_rest j (other j m))
 
-      grown : Grown case marks load (record { root = root; slack = slack'; toward = toward'; closed = closed; round = round'; parent = parent'; room = room' })
+      grown : Grown case marks load (record { root = root; slack = slack'; toward = toward'; closed = closed; reached = reached' })
       grown =
           record {
             inside = λ i l. elim (relaxed.near i l) [ inl s ↦ omega (arith, s.1, g.inside i l) | inr s ↦ omega (arith, s.0) ];
-            met = λ i l. elim (relaxed.near i l) [ inl s ↦ rw s.1 (stays (at toward i) (g.met i l)) | inr s ↦ rw s.0 (omega (arith, putRound.here)) ];
+            met = λ i l. elim (relaxed.near i l) [ inl s ↦ rw s.1 (stays (at toward i) (g.met i l)) | inr s ↦ rw s.0 (omega (arith, round_here)) ];
             gap = λ i l. elim (relaxed.near i l) [ inl s ↦ rw s.1 (omega (arith, s.0, g.gap i l)) | inr s ↦ rw s.0 (omega (arith, s.1)) ];
             least = least;
             flag = g.flag;
@@ -103,64 +126,62 @@ module _ (case : Case) (marks : Marks) (load : Load) (limited : Limited case) (m
             back = back;
             root_inside = g.root_inside;
             root_met = stays root g.root_met;
-            root_room = putRoom.rest root (other root g.root_met) ∙ g.root_room;
+            root_room = room_rest root (other root g.root_met) ∙ g.root_room;
             slacks = relaxed.slacks;
             towards = relaxed.towards;
             closeds = g.closeds;
-            rounds = putRound.size ∙ g.rounds;
-            parents = putParent.size ∙ g.parents;
-            rooms = putRoom.size ∙ g.rooms;
+            reacheds = met.size ∙ g.reacheds;
           }
         where
-          least : (i j : ℕ) → i < case.sources → j < case.sinks → 0 < at round' j → at marks.sink j + at slack' i ≤ at marks.source i + cost_of case i j
+          least : (i j : ℕ) → i < case.sources → j < case.sinks → 0 < round_at reached' j → at marks.sink j + at slack' i ≤ at marks.source i + cost_of case i j
           least i j li lj m =
               ⊎_elim
               (λ (e : j ≡ sink). rw e (elim (relaxed.near i li) [ inl s ↦ omega (arith, s.0, s.2) | inr s ↦ omega (arith, s.1) ]))
               (λ (ne : j ≡ sink → ⊥).
-              let was : at marks.sink j + at slack i ≤ at marks.source i + cost_of case i j = g.least i j li lj (omega (arith, putRound.rest j ne)) in
+              let was : at marks.sink j + at slack i ≤ at marks.source i + cost_of case i j = g.least i j li lj (omega (arith, round_rest j ne)) in
               elim (relaxed.near i li) [ inl s ↦ omega (arith, s.0) | inr s ↦ omega (arith, s.2) ])
               (cases_eq j sink)
 
-          roomy : (j : ℕ) → j < case.sinks → 0 < at round' j → 0 < at room' j
+          roomy : (j : ℕ) → j < case.sinks → 0 < round_at reached' j → 0 < room_at reached' j
           roomy j lj m =
               ⊎_elim
-              (λ (e : j ≡ sink). rw e (omega (arith, putRoom.here, g.roomy (at toward source) (g.inside source si) (g.met source si))))
-              (λ (ne : j ≡ sink → ⊥). omega (arith, putRoom.rest j ne, g.roomy j lj (omega (arith, putRound.rest j ne))))
+              (λ (e : j ≡ sink). rw e (omega (arith, room_here, g.roomy (at toward source) (g.inside source si) (g.met source si))))
+              (λ (ne : j ≡ sink → ⊥). omega (arith, room_rest j ne, g.roomy j lj (omega (arith, round_rest j ne))))
               (cases_eq j sink)
 
-          back : (j : ℕ) → j < case.sinks → 0 < at round' j → (j ≡ root → ⊥) → Back case load.flow (record { root = root; slack = slack'; toward = toward'; closed = closed; round = round'; parent = parent'; room = room' }) j
+          back : (j : ℕ) → j < case.sinks → 0 < round_at reached' j → (j ≡ root → ⊥) → Back case load.flow (record { root = root; slack = slack'; toward = toward'; closed = closed; reached = reached' }) j
           back j lj m nr =
               ⊎_elim
               (λ (e : j ≡ sink).
               let t = at toward source in
               let far : t ≡ sink → ⊥ = other t (g.met source si) in
-              rw e (back_by case load.flow _ sink source t putParent.here (kept source si none).1 si (kept source si none).0 (omega (arith, putRoom.here)) (omega (arith, putRoom.here, putRoom.rest t far)) (omega (arith, putRound.here, putRound.rest t far))))
+              rw e (back_by case load.flow _ sink source t parent_here (kept source si none).1 si (kept source si none).0 (omega (arith, room_here)) (omega (arith, room_here, room_rest t far)) (omega (arith, round_here, round_rest t far))))
               (λ (ne : j ≡ sink → ⊥).
-              let b = g.back j lj (omega (arith, putRound.rest j ne)) nr in
-              let p = at parent j in
+              let b = g.back j lj (omega (arith, round_rest j ne)) nr in
+              let p = parent_at reached j in
               let t = at toward p in
               let far : t ≡ sink → ⊥ = other t (g.met p b.inside) in
-              back_by case load.flow _ j p t (putParent.rest j ne) (kept p b.inside b.slack).1 b.inside (kept p b.inside b.slack).0
-              (omega (arith, b.served, putRoom.rest j ne)) (omega (arith, b.room, putRoom.rest j ne, putRoom.rest t far)) (omega (arith, b.round, putRound.rest j ne, putRound.rest t far)))
+              back_by case load.flow _ j p t (parent_rest j ne) (kept p b.inside b.slack).1 b.inside (kept p b.inside b.slack).0
+              (omega (arith, b.served, room_rest j ne)) (omega (arith, b.room, room_rest j ne, room_rest t far)) (omega (arith, b.round, round_rest j ne, round_rest t far)))
               (cases_eq j sink)
 
 -- a tree while a source is taken in: the sinks below `upto` that it serves are reached
 pub record Absorbing (case : Case) (marks : Marks) (load : Load) (source round upto : ℕ) (tree tree' : Tree) : Type 0 where
   pub grown : Grown case marks load tree'
-  pub early : (j : ℕ) → j < case.sinks → at tree'.round j ≤ round
-  pub ahead : at tree'.round (at tree'.toward source) < round
+  pub early : (j : ℕ) → j < case.sinks → round_at tree'.reached j ≤ round
+  pub ahead : round_at tree'.reached (at tree'.toward source) < round
   pub slack : at tree'.slack source ≡ 0
-  pub served : (j : ℕ) → j < upto → 0 < cell load.flow source j → 0 < at tree'.round j
+  pub served : (j : ℕ) → j < upto → 0 < cell load.flow source j → 0 < round_at tree'.reached j
   pub closed : tree'.closed ≡ tree.closed
   pub root : tree'.root ≡ tree.root
 
 module _ (case : Case) (marks : Marks) (load : Load) (source round : ℕ) (tree : Tree) where
   -- a sink that is not served, or was reached before
-  pub absorbing_pass : (j : ℕ) (tree' : Tree) → Absorbing case marks load source round j tree tree' → (0 < cell load.flow source j → 0 < at tree'.round j) → Absorbing case marks load source round (j + 1) tree tree'
+  pub absorbing_pass : (j : ℕ) (tree' : Tree) → Absorbing case marks load source round j tree tree' → (0 < cell load.flow source j → 0 < round_at tree'.reached j) → Absorbing case marks load source round (j + 1) tree tree'
   absorbing_pass j tree' a here =
       record { grown = a.grown; early = a.early; ahead = a.ahead; slack = a.slack; served = below_more _ _ a.served here; closed = a.closed; root = a.root }
 
-  pub absorbing_join : (j : ℕ) (tree' tree'' : Tree) → source < case.sources → j < case.sinks → at tree'.round j ≡ 0 → Absorbing case marks load source round j tree tree' → Joined case marks load source j round tree' tree'' → Absorbing case marks load source round (j + 1) tree tree''
+  pub absorbing_join : (j : ℕ) (tree' tree'' : Tree) → source < case.sources → j < case.sinks → round_at tree'.reached j ≡ 0 → Absorbing case marks load source round j tree tree' → Joined case marks load source j round tree' tree'' → Absorbing case marks load source round (j + 1) tree tree''
   absorbing_join j tree' tree'' ls lj new a join =
       record {
         grown = join.grown;
@@ -173,18 +194,18 @@ module _ (case : Case) (marks : Marks) (load : Load) (source round : ℕ) (tree 
       }
     where
       other : at tree'.toward source ≡ j → ⊥
-      other e = let m : 0 < at tree'.round (at tree'.toward source) = a.grown.met source ls in let P : ℕ → Type 0 = λ k. 0 < at tree'.round k in let z : 0 < at tree'.round j = subst P e m in omega arith
+      other e = let m : 0 < round_at tree'.reached (at tree'.toward source) = a.grown.met source ls in let P : ℕ → Type 0 = λ k. 0 < round_at tree'.reached k in let z : 0 < round_at tree'.reached j = subst P e m in omega arith
 
   pub absorbed :
-      (root : ℕ) (slack' toward' closed' closed'' round' parent' room' : List ℕ)
-      → Absorbing case marks load source round case.sinks tree (record { root = root; slack = slack'; toward = toward'; closed = closed'; round = round'; parent = parent'; room = room' })
+      (root : ℕ) (slack' toward' closed' closed'' : List ℕ) (reached' : List (Option Reached))
+      → Absorbing case marks load source round case.sinks tree (record { root = root; slack = slack'; toward = toward'; closed = closed'; reached = reached' })
       → source < case.sources → at tree.closed source ≡ 0 → at load.stock source ≡ 0
       → Put closed' closed'' source 4294967295
-      → Absorbed case marks load round tree (record { root = root; slack = slack'; toward = toward'; closed = closed''; round = round'; parent = parent'; room = room' })
-  absorbed root slack' toward' closed' closed'' round' parent' room' a ls still empty put =
+      → Absorbed case marks load round tree (record { root = root; slack = slack'; toward = toward'; closed = closed''; reached = reached' })
+  absorbed root slack' toward' closed' closed'' reached' a ls still empty put =
       record { grown = grown; early = a.early; closed = total; root = a.root }
     where
-      before : Grown case marks load (record { root = root; slack = slack'; toward = toward'; closed = closed'; round = round'; parent = parent'; room = room' })
+      before : Grown case marks load (record { root = root; slack = slack'; toward = toward'; closed = closed'; reached = reached' })
       before = a.grown
 
       total : sum_to (at closed'') case.sources ≡ sum_to (at tree.closed) case.sources + 4294967295
@@ -197,7 +218,7 @@ module _ (case : Case) (marks : Marks) (load : Load) (source round : ℕ) (tree 
       by_closed : (i : ℕ) → 0 < at closed'' i → (i ≡ source) ⊎ (0 < at closed' i)
       by_closed i c = ⊎_elim (λ (e : i ≡ source). inl e) (λ (ne : i ≡ source → ⊥). inr (omega (arith, put.rest i ne))) (cases_eq i source)
 
-      grown : Grown case marks load (record { root = root; slack = slack'; toward = toward'; closed = closed''; round = round'; parent = parent'; room = room' })
+      grown : Grown case marks load (record { root = root; slack = slack'; toward = toward'; closed = closed''; reached = reached' })
       grown =
           record {
             inside = before.inside;
@@ -216,9 +237,7 @@ module _ (case : Case) (marks : Marks) (load : Load) (source round : ℕ) (tree 
             slacks = before.slacks;
             towards = before.towards;
             closeds = put.size ∙ before.closeds;
-            rounds = before.rounds;
-            parents = before.parents;
-            rooms = before.rooms;
+            reacheds = before.reacheds;
           }
 
 module _ (case : Case) (marks : Marks) (load : Load) (limited : Limited case) (marked : Marked case marks) (tied : Tied case marks load) where
@@ -227,7 +246,7 @@ module _ (case : Case) (marks : Marks) (load : Load) (limited : Limited case) (m
     pub spare_still : at tree.closed spare ≡ 0
     spare_still = elim (g.flag spare inside) [ inl e ↦ e | inr e ↦ absurd (let z : ⊥ = omega (arith, g.shut_stock spare inside (omega arith)) in z) ]
 
-    pub sink_rises : (by : ℕ) → by ≤ at tree.slack spare → (j : ℕ) → j < case.sinks → 0 < at tree.round j → at marks.sink j + by ≤ 4000000
+    pub sink_rises : (by : ℕ) → by ≤ at tree.slack spare → (j : ℕ) → j < case.sinks → 0 < round_at tree.reached j → at marks.sink j + by ≤ 4000000
     sink_rises by l j lj m = omega (arith, g.least spare j inside lj m, tied.unraised spare inside stocked, limited.costs spare j inside lj)
 
     pub source_rises : (by : ℕ) → by ≤ at tree.slack spare → (i : ℕ) → i < case.sources → 0 < at tree.closed i → at marks.source i + by ≤ 4000000
@@ -264,18 +283,18 @@ module _ (case : Case) (marks : Marks) (load : Load) (limited : Limited case) (m
   -- a source that is tight as it stands
   pub tightened_already : (tree : Tree) (source : ℕ) → Grown case marks load tree → Rising case marks tree source → at tree.slack source ≡ 0 → Tightened case load source tree marks tree
   tightened_already tree source g rise none =
-      record { marked = marked; tied = tied; grown = g; inside = rise.inside; slack = none; still = rise.still; closed = refl; round = refl; root = refl }
+      record { marked = marked; tied = tied; grown = g; inside = rise.inside; slack = none; still = rise.still; closed = refl; reached = refl; root = refl }
 
   pub raised :
-      (source root : ℕ) (slack toward closed round parent room source' slack' sink' : List ℕ)
-      → Grown case marks load (record { root = root; slack = slack; toward = toward; closed = closed; round = round; parent = parent; room = room })
-      → Rising case marks (record { root = root; slack = slack; toward = toward; closed = closed; round = round; parent = parent; room = room }) source
+      (source root : ℕ) (slack toward closed source' slack' sink' : List ℕ) (reached : List (Option Reached))
+      → Grown case marks load (record { root = root; slack = slack; toward = toward; closed = closed; reached = reached })
+      → Rising case marks (record { root = root; slack = slack; toward = toward; closed = closed; reached = reached }) source
       → Raised (at closed) case.sources (at slack source) marks.source source'
       → Lowered (at closed) case.sources (at slack source) slack slack'
-      → Raised (at round) case.sinks (at slack source) marks.sink sink'
-      → Tightened case load source (record { root = root; slack = slack; toward = toward; closed = closed; round = round; parent = parent; room = room }) (record { source = source'; sink = sink' }) (record { root = root; slack = slack'; toward = toward; closed = closed; round = round; parent = parent; room = room })
-  raised source root slack toward closed round parent room source' slack' sink' g rise sources slacks sinks =
-      record { marked = marked'; tied = tied'; grown = grown'; inside = rise.inside; slack = omega (arith, slacks.lowered source rise.inside rise.still); still = rise.still; closed = refl; round = refl; root = refl }
+      → Raised (round_at reached) case.sinks (at slack source) marks.sink sink'
+      → Tightened case load source (record { root = root; slack = slack; toward = toward; closed = closed; reached = reached }) (record { source = source'; sink = sink' }) (record { root = root; slack = slack'; toward = toward; closed = closed; reached = reached })
+  raised source root slack toward closed source' slack' sink' reached g rise sources slacks sinks =
+      record { marked = marked'; tied = tied'; grown = grown'; inside = rise.inside; slack = omega (arith, slacks.lowered source rise.inside rise.still); still = rise.still; closed = refl; reached = refl; root = refl }
     where
       of_source : (i : ℕ) → i < case.sources → ((at closed i ≡ 0) × (at source' i ≡ at marks.source i) × (at slack' i + at slack source ≡ at slack i)) ⊎ ((0 < at closed i) × (at source' i ≡ at marks.source i + at slack source) × (at slack' i ≡ at slack i))
       of_source i l =
@@ -284,12 +303,12 @@ module _ (case : Case) (marks : Marks) (load : Load) (limited : Limited case) (m
           (λ (ne : at closed i ≡ 0 → ⊥). let c : 0 < at closed i = omega arith in inr (c, sources.raised i l c, slacks.still i l c))
           (cases_eq (at closed i) 0)
 
-      of_sink : (j : ℕ) → j < case.sinks → ((at round j ≡ 0) × (at sink' j ≡ at marks.sink j)) ⊎ ((0 < at round j) × (at sink' j ≡ at marks.sink j + at slack source))
+      of_sink : (j : ℕ) → j < case.sinks → ((round_at reached j ≡ 0) × (at sink' j ≡ at marks.sink j)) ⊎ ((0 < round_at reached j) × (at sink' j ≡ at marks.sink j + at slack source))
       of_sink j l =
           ⊎_elim
-          (λ (e : at round j ≡ 0). inl (e, sinks.still j l e))
-          (λ (ne : at round j ≡ 0 → ⊥). let m : 0 < at round j = omega arith in inr (m, sinks.raised j l m))
-          (cases_eq (at round j) 0)
+          (λ (e : round_at reached j ≡ 0). inl (e, sinks.still j l e))
+          (λ (ne : round_at reached j ≡ 0 → ⊥). let m : 0 < round_at reached j = omega arith in inr (m, sinks.raised j l m))
+          (cases_eq (round_at reached j) 0)
 
       fair : (i j : ℕ) → i < case.sources → j < case.sinks → at sink' j ≤ at source' i + cost_of case i j
       fair i j li lj =
@@ -327,7 +346,7 @@ module _ (case : Case) (marks : Marks) (load : Load) (limited : Limited case) (m
       slack_stays : (i : ℕ) → i < case.sources → at slack i ≡ 0 → at slack' i ≡ 0
       slack_stays i l e = elim (of_source i l) [ inl s ↦ omega (arith, s.2) | inr s ↦ omega (arith, s.2) ]
 
-      grown' : Grown case (record { source = source'; sink = sink' }) load (record { root = root; slack = slack'; toward = toward; closed = closed; round = round; parent = parent; room = room })
+      grown' : Grown case (record { source = source'; sink = sink' }) load (record { root = root; slack = slack'; toward = toward; closed = closed; reached = reached })
       grown' =
           record {
             inside = g.inside;
@@ -345,14 +364,12 @@ module _ (case : Case) (marks : Marks) (load : Load) (limited : Limited case) (m
             shut_stock = g.shut_stock;
             shut_served = g.shut_served;
             roomy = g.roomy;
-            back = λ j lj m ne. let b = g.back j lj m ne in record { inside = b.inside; slack = slack_stays (at parent j) b.inside b.slack; served = b.served; room = b.room; round = b.round };
+            back = λ j lj m ne. let b = g.back j lj m ne in record { inside = b.inside; slack = slack_stays (parent_at reached j) b.inside b.slack; served = b.served; room = b.room; round = b.round };
             root_inside = g.root_inside;
             root_met = g.root_met;
             root_room = g.root_room;
             slacks = slacks.size;
             towards = g.towards;
             closeds = g.closeds;
-            rounds = g.rounds;
-            parents = g.parents;
-            rooms = g.rooms;
+            reacheds = g.reacheds;
           }

@@ -6,7 +6,7 @@ use Rattle.transport.specs.declared.load.Marks.{Marks}
 use Rattle.transport.specs.declared.load.Load.{Load}
 use Rattle.transport.specs.declared.load.tree.Tree.{Tree}
 use Rattle.transport.specs.Transport.{at, cell, cost_of, sum_to}
-use Rattle.transport.specs.Solver.{Limited, Tied, Summed, Put, Back, Way, Grown, Rerouted, Sent, part}
+use Rattle.transport.specs.Solver.{round_at, parent_at, room_at, Limited, Tied, Summed, Put, Back, Way, Grown, Rerouted, Sent, part}
 use Rattle.transport.proofs.Sums.{sum_change, sum_same, sum_at}
 
 pub part_same : (k i a : ℕ) → k ≡ i → part k i a ≡ a
@@ -51,11 +51,11 @@ module _ (flow flow' : List ℕ) (i j x a b : ℕ) (few : j < 64) (put : Put flo
 pub record Rerouting (case : Case) (tree : Tree) (amount start : ℕ) (flow : List ℕ) (source : ℕ) (flow' : List ℕ) : Type 0 where
   pub inside : source < case.sources
   pub slack : at tree.slack source ≡ 0
-  pub fits : amount ≤ at tree.room (at tree.toward source)
+  pub fits : amount ≤ room_at tree.reached (at tree.toward source)
   pub rows : (k : ℕ) → k < case.sources → sum_to (λ j. cell flow' k j) case.sinks + part k source amount ≡ sum_to (λ j. cell flow k j) case.sinks + part k start amount
   pub columns : (k : ℕ) → k < case.sinks → sum_to (λ i. cell flow' i k) case.sources ≡ sum_to (λ i. cell flow i k) case.sources
   pub fresh : (i j : ℕ) → i < case.sources → j < case.sinks → 0 < cell flow' i j → (0 < cell flow i j) ⊎ ((at tree.slack i ≡ 0) × (at tree.toward i ≡ j))
-  pub served : (j : ℕ) → j < case.sinks → 0 < at tree.round j → (j ≡ tree.root → ⊥) → at tree.round j ≤ at tree.round (at tree.toward source) → at tree.room j ≤ cell flow' (at tree.parent j) j
+  pub served : (j : ℕ) → j < case.sinks → 0 < round_at tree.reached j → (j ≡ tree.root → ⊥) → round_at tree.reached j ≤ round_at tree.reached (at tree.toward source) → room_at tree.reached j ≤ cell flow' (parent_at tree.reached j) j
   pub size : length flow' ≡ 4096
 
 module _ (case : Case) (tree : Tree) (amount start : ℕ) (flow : List ℕ) (limited : Limited case) (way : Way case flow tree) where
@@ -63,7 +63,7 @@ module _ (case : Case) (tree : Tree) (amount start : ℕ) (flow : List ℕ) (lim
     sink_inside : sink < case.sinks
     sink_inside = omega (arith, way.inside source r.inside)
 
-    sink_met : 0 < at tree.round sink
+    sink_met : 0 < round_at tree.reached sink
     sink_met = rw ahead at (way.met source r.inside)
 
     given_rows : (k : ℕ) → k < case.sources → sum_to (λ j. cell flow2 k j) case.sinks ≡ sum_to (λ j. cell flow k j) case.sinks + part k start amount
@@ -100,50 +100,50 @@ module _ (case : Case) (tree : Tree) (amount start : ℕ) (flow : List ℕ) (lim
         record { rows = given_rows; columns = subst P e given_columns; fresh = given_fresh; fits = rw (ahead, e) at r.fits; size = give.size ∙ r.size }
 
     -- what is to be taken from the parent
-    pub parent_serves : (sink ≡ tree.root → ⊥) → amount ≤ cell flow2 (at tree.parent sink) sink
+    pub parent_serves : (sink ≡ tree.root → ⊥) → amount ≤ cell flow2 (parent_at tree.reached sink) sink
     parent_serves ne =
-        let room : amount ≤ at tree.room sink = rw ahead at r.fits in
-        let level : at tree.round sink ≤ at tree.round (at tree.toward source) = rw ahead (omega arith) in
-        omega (arith, r.served sink sink_inside sink_met ne level, given_more (64 * at tree.parent sink + sink))
+        let room : amount ≤ room_at tree.reached sink = rw ahead at r.fits in
+        let level : round_at tree.reached sink ≤ round_at tree.reached (at tree.toward source) = rw ahead (omega arith) in
+        omega (arith, r.served sink sink_inside sink_met ne level, given_more (64 * parent_at tree.reached sink + sink))
 
-    pub rerouting_more : (flow3 : List ℕ) → (sink ≡ tree.root → ⊥) → Put flow2 flow3 (64 * at tree.parent sink + sink) (cell flow2 (at tree.parent sink) sink - amount) → Rerouting case tree amount start flow (at tree.parent sink) flow3
+    pub rerouting_more : (flow3 : List ℕ) → (sink ≡ tree.root → ⊥) → Put flow2 flow3 (64 * parent_at tree.reached sink + sink) (cell flow2 (parent_at tree.reached sink) sink - amount) → Rerouting case tree amount start flow (parent_at tree.reached sink) flow3
     rerouting_more flow3 ne take =
         record { inside = b.inside; slack = b.slack; fits = omega (arith, b.room, room); rows = rows; columns = columns; fresh = fresh; served = served; size = take.size ∙ give.size ∙ r.size }
       where
         b : Back case flow tree sink
         b = way.back sink sink_inside sink_met ne
 
-        room : amount ≤ at tree.room sink
+        room : amount ≤ room_at tree.reached sink
         room = rw ahead at r.fits
 
         few : sink < 64
         few = omega (arith, sink_inside, limited.few)
 
-        moved : cell flow2 (at tree.parent sink) sink - amount + amount ≡ cell flow2 (at tree.parent sink) sink + 0
+        moved : cell flow2 (parent_at tree.reached sink) sink - amount + amount ≡ cell flow2 (parent_at tree.reached sink) sink + 0
         moved = omega (arith, parent_serves ne)
 
-        rows : (k : ℕ) → k < case.sources → sum_to (λ j. cell flow3 k j) case.sinks + part k (at tree.parent sink) amount ≡ sum_to (λ j. cell flow k j) case.sinks + part k start amount
-        rows k l = omega (arith, row_moves flow2 flow3 (at tree.parent sink) sink (cell flow2 (at tree.parent sink) sink - amount) 0 amount few take moved case.sinks sink_inside (omega (arith, limited.few)) k, given_rows k l, part_none k (at tree.parent sink))
+        rows : (k : ℕ) → k < case.sources → sum_to (λ j. cell flow3 k j) case.sinks + part k (parent_at tree.reached sink) amount ≡ sum_to (λ j. cell flow k j) case.sinks + part k start amount
+        rows k l = omega (arith, row_moves flow2 flow3 (parent_at tree.reached sink) sink (cell flow2 (parent_at tree.reached sink) sink - amount) 0 amount few take moved case.sinks sink_inside (omega (arith, limited.few)) k, given_rows k l, part_none k (parent_at tree.reached sink))
 
         columns : (k : ℕ) → k < case.sinks → sum_to (λ i. cell flow3 i k) case.sources ≡ sum_to (λ i. cell flow i k) case.sources
-        columns k l = omega (arith, column_moves flow2 flow3 (at tree.parent sink) sink (cell flow2 (at tree.parent sink) sink - amount) 0 amount few take moved case.sources b.inside k (omega (arith, limited.few)), given_columns k l, part_none k sink)
+        columns k l = omega (arith, column_moves flow2 flow3 (parent_at tree.reached sink) sink (cell flow2 (parent_at tree.reached sink) sink - amount) 0 amount few take moved case.sources b.inside k (omega (arith, limited.few)), given_columns k l, part_none k sink)
 
         less : (p : ℕ) → at flow3 p ≤ at flow2 p
         less p =
             ⊎_elim
-            (λ (e : p ≡ 64 * at tree.parent sink + sink). rw e (omega (arith, take.here)))
-            (λ (other : p ≡ 64 * at tree.parent sink + sink → ⊥). omega (arith, take.rest p other))
-            (cases_eq p (64 * at tree.parent sink + sink))
+            (λ (e : p ≡ 64 * parent_at tree.reached sink + sink). rw e (omega (arith, take.here)))
+            (λ (other : p ≡ 64 * parent_at tree.reached sink + sink → ⊥). omega (arith, take.rest p other))
+            (cases_eq p (64 * parent_at tree.reached sink + sink))
 
         fresh : (i j : ℕ) → i < case.sources → j < case.sinks → 0 < cell flow3 i j → (0 < cell flow i j) ⊎ ((at tree.slack i ≡ 0) × (at tree.toward i ≡ j))
         fresh i j li lj f = given_fresh i j li lj (omega (arith, less (64 * i + j)))
 
-        served : (j : ℕ) → j < case.sinks → 0 < at tree.round j → (j ≡ tree.root → ⊥) → at tree.round j ≤ at tree.round (at tree.toward (at tree.parent sink)) → at tree.room j ≤ cell flow3 (at tree.parent j) j
+        served : (j : ℕ) → j < case.sinks → 0 < round_at tree.reached j → (j ≡ tree.root → ⊥) → round_at tree.reached j ≤ round_at tree.reached (at tree.toward (parent_at tree.reached sink)) → room_at tree.reached j ≤ cell flow3 (parent_at tree.reached j) j
         served j lj m nr le =
-            let other : j ≡ sink → ⊥ = λ e. omega (arith, b.round, ap (at tree.round) e) in
-            let apart : 64 * at tree.parent j + j ≡ 64 * at tree.parent sink + sink → ⊥ = λ e. other (omega (arith, few, limited.few)) in
-            let level : at tree.round j ≤ at tree.round (at tree.toward source) = rw ahead (omega (arith, b.round)) in
-            omega (arith, take.rest (64 * at tree.parent j + j) apart, given_more (64 * at tree.parent j + j), r.served j lj m nr level)
+            let other : j ≡ sink → ⊥ = λ e. omega (arith, b.round, ap (round_at tree.reached) e) in
+            let apart : 64 * parent_at tree.reached j + j ≡ 64 * parent_at tree.reached sink + sink → ⊥ = λ e. other (omega (arith, few, limited.few)) in
+            let level : round_at tree.reached j ≤ round_at tree.reached (at tree.toward source) = rw ahead (omega (arith, b.round)) in
+            omega (arith, take.rest (64 * parent_at tree.reached j + j) apart, given_more (64 * parent_at tree.reached j + j), r.served j lj m nr level)
 
   -- what a cell has is small
   pub gives_little : (source : ℕ) (flow1 : List ℕ) → Rerouting case tree amount start flow source flow1 → amount ≤ 1000000 → ((i : ℕ) → i < case.sources → sum_to (λ j. cell flow i j) case.sinks ≤ 1000000) → cell flow1 source (at tree.toward source) + amount ≤ 3000000
@@ -165,7 +165,7 @@ sum_falls xs xs' i a n put l li = omega (arith, sum_change (at xs) (at xs') n i 
 pub sent :
     (case : Case) (tree : Tree) (load : Load) (source amount : ℕ) (flow' stock' want' : List ℕ)
     → Summed case load → source < case.sources → tree.root < case.sinks
-    → 0 < amount → amount ≤ at load.stock source → at tree.room tree.root ≡ at load.want tree.root
+    → 0 < amount → amount ≤ at load.stock source → room_at tree.reached tree.root ≡ at load.want tree.root
     → Rerouted case tree source amount load.flow flow'
     → Put load.stock stock' source (at load.stock source - amount)
     → Put load.want want' tree.root (at load.want tree.root - amount)

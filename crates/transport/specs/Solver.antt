@@ -1,14 +1,41 @@
 -- What the solver keeps: between phases, and while a tree grows.
-use Rattle.std.specs.Prelude.{◌≡◌, ℕ, ◌+◌, ◌<◌, ◌≤◌, max, cond, ◌⊎◌, List, length, Some, None, Option, ◌==◌, ◌≢◌}
+use Rattle.std.specs.Prelude.{◌≡◌, ℕ, ◌+◌, ◌<◌, ◌≤◌, max, cond, ◌⊎◌, List, length, Some, None, Option, ◌==◌, ◌≢◌, slice_index_or}
 use Rattle.transport.specs.declared.case.Case.{Case}
 use Rattle.transport.specs.declared.load.Marks.{Marks}
 use Rattle.transport.specs.declared.load.Load.{Load}
+use Rattle.transport.specs.declared.load.tree.Reached.{Reached}
 use Rattle.transport.specs.declared.load.tree.Tree.{Tree}
 use Rattle.transport.specs.Transport.{at, cell, cost_of, sum_to}
 
 -- the amount, where two numbers agree
 abbrev pub part : ℕ → ℕ → ℕ → ℕ
 part k i amount = cond (k == i) amount 0
+
+-- how a sink was reached
+abbrev pub reached_at : List (Option Reached) → ℕ → Option Reached
+reached_at reached j = slice_index_or reached j None
+
+abbrev pub round_of : Option Reached → ℕ
+round_of (Some r) = r.round + 1
+round_of None = 0
+
+abbrev pub parent_of : Option Reached → ℕ
+parent_of (Some r) = r.parent
+parent_of None = 0
+
+abbrev pub room_of : Option Reached → ℕ
+room_of (Some r) = r.room
+room_of None = 0
+
+-- the round of a sink, from 1 on, or 0 where it was not reached, its parent, and its room
+abbrev pub round_at : List (Option Reached) → ℕ → ℕ
+round_at reached j = round_of (reached_at reached j)
+
+abbrev pub parent_at : List (Option Reached) → ℕ → ℕ
+parent_at reached j = parent_of (reached_at reached j)
+
+abbrev pub room_at : List (Option Reached) → ℕ → ℕ
+room_at reached j = room_of (reached_at reached j)
 
 -- the limits of a case, each as a fact
 pub record Limited (case : Case) : Type 0 where
@@ -78,43 +105,47 @@ pub record Put (old new : List ℕ) (k x : ℕ) : Type 0 where
   pub here : at new k ≡ x
   pub rest : (i : ℕ) → (i ≢ k) → at new i ≡ at old i
 
+-- one sink was reached
+pub record Met (old new : List (Option Reached)) (k : ℕ) (r : Reached) : Type 0 where
+  pub size : length new ≡ length old
+  pub here : reached_at new k ≡ Some r
+  pub rest : (j : ℕ) → (j ≢ k) → reached_at new j ≡ reached_at old j
+
 -- the way back from a reached sink: through its parent, toward the sink that this is tight with
 pub record Back (case : Case) (flow : List ℕ) (tree : Tree) (j : ℕ) : Type 0 where
-  pub inside : at tree.parent j < case.sources
-  pub slack : at tree.slack (at tree.parent j) ≡ 0
-  pub served : at tree.room j ≤ cell flow (at tree.parent j) j
-  pub room : at tree.room j ≤ at tree.room (at tree.toward (at tree.parent j))
-  pub round : at tree.round (at tree.toward (at tree.parent j)) < at tree.round j
+  pub inside : parent_at tree.reached j < case.sources
+  pub slack : at tree.slack (parent_at tree.reached j) ≡ 0
+  pub served : room_at tree.reached j ≤ cell flow (parent_at tree.reached j) j
+  pub room : room_at tree.reached j ≤ room_at tree.reached (at tree.toward (parent_at tree.reached j))
+  pub round : round_at tree.reached (at tree.toward (parent_at tree.reached j)) < round_at tree.reached j
 
 -- A tree as it grows. Each source knows its slack to the reached sink nearest to it. A closed source has no slack and
 -- nothing left, and whom it serves is reached. A reached sink but the root has a parent without slack that serves it
 -- at least its room, and on the way to the root rounds fall and rooms do not.
 pub record Grown (case : Case) (marks : Marks) (load : Load) (tree : Tree) : Type 0 where
   pub inside : (i : ℕ) → i < case.sources → at tree.toward i < case.sinks
-  pub met : (i : ℕ) → i < case.sources → 0 < at tree.round (at tree.toward i)
+  pub met : (i : ℕ) → i < case.sources → 0 < round_at tree.reached (at tree.toward i)
   pub gap : (i : ℕ) → i < case.sources → at marks.sink (at tree.toward i) + at tree.slack i ≡ at marks.source i + cost_of case i (at tree.toward i)
-  pub least : (i j : ℕ) → i < case.sources → j < case.sinks → 0 < at tree.round j → at marks.sink j + at tree.slack i ≤ at marks.source i + cost_of case i j
+  pub least : (i j : ℕ) → i < case.sources → j < case.sinks → 0 < round_at tree.reached j → at marks.sink j + at tree.slack i ≤ at marks.source i + cost_of case i j
   pub flag : (i : ℕ) → i < case.sources → (at tree.closed i ≡ 0) ⊎ (at tree.closed i ≡ 4294967295)
   pub shut_slack : (i : ℕ) → i < case.sources → 0 < at tree.closed i → at tree.slack i ≡ 0
   pub shut_stock : (i : ℕ) → i < case.sources → 0 < at tree.closed i → at load.stock i ≡ 0
-  pub shut_served : (i j : ℕ) → i < case.sources → j < case.sinks → 0 < at tree.closed i → 0 < cell load.flow i j → 0 < at tree.round j
-  pub roomy : (j : ℕ) → j < case.sinks → 0 < at tree.round j → 0 < at tree.room j
-  pub back : (j : ℕ) → j < case.sinks → 0 < at tree.round j → (j ≢ tree.root) → Back case load.flow tree j
+  pub shut_served : (i j : ℕ) → i < case.sources → j < case.sinks → 0 < at tree.closed i → 0 < cell load.flow i j → 0 < round_at tree.reached j
+  pub roomy : (j : ℕ) → j < case.sinks → 0 < round_at tree.reached j → 0 < room_at tree.reached j
+  pub back : (j : ℕ) → j < case.sinks → 0 < round_at tree.reached j → (j ≢ tree.root) → Back case load.flow tree j
   pub root_inside : tree.root < case.sinks
-  pub root_met : 0 < at tree.round tree.root
-  pub root_room : at tree.room tree.root ≡ at load.want tree.root
+  pub root_met : 0 < round_at tree.reached tree.root
+  pub root_room : room_at tree.reached tree.root ≡ at load.want tree.root
   pub slacks : length tree.slack ≡ 64
   pub towards : length tree.toward ≡ 64
   pub closeds : length tree.closed ≡ 64
-  pub rounds : length tree.round ≡ 64
-  pub parents : length tree.parent ≡ 64
-  pub rooms : length tree.room ≡ 64
+  pub reacheds : length tree.reached ≡ 64
 
 -- a tree after a sink joined it
 pub record Joined (case : Case) (marks : Marks) (load : Load) (source sink round : ℕ) (tree tree' : Tree) : Type 0 where
   pub grown : Grown case marks load tree'
-  pub reached : at tree'.round sink ≡ round
-  pub others : (j : ℕ) → (j ≢ sink) → at tree'.round j ≡ at tree.round j
+  pub reached : round_at tree'.reached sink ≡ round
+  pub others : (j : ℕ) → (j ≢ sink) → round_at tree'.reached j ≡ round_at tree.reached j
   pub closed : tree'.closed ≡ tree.closed
   pub root : tree'.root ≡ tree.root
   pub slack : at tree'.slack source ≡ 0
@@ -123,7 +154,7 @@ pub record Joined (case : Case) (marks : Marks) (load : Load) (source sink round
 -- a tree after a source without stock was taken in with all that it serves
 pub record Absorbed (case : Case) (marks : Marks) (load : Load) (round : ℕ) (tree tree' : Tree) : Type 0 where
   pub grown : Grown case marks load tree'
-  pub early : (j : ℕ) → j < case.sinks → at tree'.round j ≤ round
+  pub early : (j : ℕ) → j < case.sinks → round_at tree'.reached j ≤ round
   pub closed : sum_to (at tree'.closed) case.sources ≡ sum_to (at tree.closed) case.sources + 4294967295
   pub root : tree'.root ≡ tree.root
 
@@ -133,7 +164,7 @@ pub record Rising (case : Case) (marks : Marks) (tree : Tree) (source : ℕ) : T
   pub still : at tree.closed source ≡ 0
   pub low : (i : ℕ) → i < case.sources → at tree.closed i ≡ 0 → at tree.slack source ≤ at tree.slack i
   pub sources : (i : ℕ) → i < case.sources → 0 < at tree.closed i → at marks.source i + at tree.slack source ≤ 4000000
-  pub sinks : (j : ℕ) → j < case.sinks → 0 < at tree.round j → at marks.sink j + at tree.slack source ≤ 4000000
+  pub sinks : (j : ℕ) → j < case.sinks → 0 < round_at tree.reached j → at marks.sink j + at tree.slack source ≤ 4000000
 
 -- marks and tree after they rose until a source was tight
 pub record Tightened (case : Case) (load : Load) (source : ℕ) (tree : Tree) (marks' : Marks) (tree' : Tree) : Type 0 where
@@ -144,7 +175,7 @@ pub record Tightened (case : Case) (load : Load) (source : ℕ) (tree : Tree) (m
   pub slack : at tree'.slack source ≡ 0
   pub still : at tree'.closed source ≡ 0
   pub closed : tree'.closed ≡ tree.closed
-  pub round : tree'.round ≡ tree.round
+  pub reached : tree'.reached ≡ tree.reached
   pub root : tree'.root ≡ tree.root
 
 -- the source at which a tree ends
@@ -160,8 +191,8 @@ pub record Found (case : Case) (marks : Marks) (load : Load) (root : ℕ) (tree 
 -- what a reached sink's way back to the root stands on
 pub record Way (case : Case) (flow : List ℕ) (tree : Tree) : Type 0 where
   pub inside : (i : ℕ) → i < case.sources → at tree.toward i < case.sinks
-  pub met : (i : ℕ) → i < case.sources → 0 < at tree.round (at tree.toward i)
-  pub back : (j : ℕ) → j < case.sinks → 0 < at tree.round j → (j ≢ tree.root) → Back case flow tree j
+  pub met : (i : ℕ) → i < case.sources → 0 < round_at tree.reached (at tree.toward i)
+  pub back : (j : ℕ) → j < case.sinks → 0 < round_at tree.reached j → (j ≢ tree.root) → Back case flow tree j
 
 -- the flow after an amount was sent from a source to the root: more leaves this source, more arrives at the root, and
 -- nothing flows anew but from a source without slack to the sink that it is tight with
@@ -169,7 +200,7 @@ pub record Rerouted (case : Case) (tree : Tree) (start amount : ℕ) (flow flow'
   pub rows : (k : ℕ) → k < case.sources → sum_to (λ j. cell flow' k j) case.sinks ≡ sum_to (λ j. cell flow k j) case.sinks + part k start amount
   pub columns : (k : ℕ) → k < case.sinks → sum_to (λ i. cell flow' i k) case.sources ≡ sum_to (λ i. cell flow i k) case.sources + part k tree.root amount
   pub fresh : (i j : ℕ) → i < case.sources → j < case.sinks → 0 < cell flow' i j → (0 < cell flow i j) ⊎ ((at tree.slack i ≡ 0) × (at tree.toward i ≡ j))
-  pub fits : amount ≤ at tree.room tree.root
+  pub fits : amount ≤ room_at tree.reached tree.root
   pub size : length flow' ≡ 4096
 
 -- the load after something was sent from a source to the root

@@ -2,7 +2,7 @@
 // to a source that still has something.
 ghost use Rattle.std.specs.Prelude.{◌≡◌, ℕ, ◌+◌, ◌<◌, ◌≤◌};
 ghost use Rattle.transport.specs.Transport.{at, cell, sum_to};
-ghost use Rattle.transport.specs.Solver.{Limited, Marked, Tied, Grown, Joined, Absorbed, Found, Relaxed, Raised, Lowered, Nearest, Rising, Tightened};
+ghost use Rattle.transport.specs.Solver.{round_at, Limited, Marked, Tied, Grown, Joined, Absorbed, Found, Relaxed, Raised, Lowered, Nearest, Rising, Tightened};
 
 use crate::case::Case;
 use crate::load::{Load, Marks};
@@ -10,6 +10,15 @@ use crate::load::{Load, Marks};
 mod phases;
 
 pub use phases::solve;
+
+// How a sink was reached: in which round, through which source that serves it, and how much can be sent anew
+// to it. The root was reached through no source.
+#[derive(Clone, Copy)]
+struct Reached {
+    round: u32,
+    parent: usize,
+    room: u32,
+}
 
 #[derive(Clone, Copy)]
 struct Tree {
@@ -19,12 +28,7 @@ struct Tree {
     toward: [u32; 64],
     // u32::MAX for a reached source, so that no slack passes it, and 0 for the others.
     closed: [u32; 64],
-    // Of each sink: the round in which it was reached, from 1 on, or 0.
-    round: [u32; 64],
-    // Of each reached sink but the root: the source that serves it, through which it was reached.
-    parent: [usize; 64],
-    // How much can be sent anew to a reached sink.
-    room: [u32; 64],
+    reached: [Option<Reached>; 64],
 }
 
 // Takes a reached sink into the slacks.
@@ -82,12 +86,12 @@ fn lower_slacks(slack: &mut [u32; 64], closed: &[u32; 64], count: usize, by: u32
 }
 
 // Raises the marks of the reached sinks.
-fn raise_sinks(sink: &mut [u32; 64], round: &[u32; 64], count: usize, by: u32)
-    requires { (count ≤ 64) × (((j : ℕ) → j < count → 0 < at round.now j → at sink.old j + by ≤ 4000000)) }
-    ensures { Raised (at round.now) count by sink.old sink.new }
+fn raise_sinks(sink: &mut [u32; 64], reached: &[Option<Reached>; 64], count: usize, by: u32)
+    requires { (count ≤ 64) × (((j : ℕ) → j < count → 0 < round_at reached.now j → at sink.old j + by ≤ 4000000)) }
+    ensures { Raised (round_at reached.now) count by sink.old sink.new }
 {
     for (j, sink) in sink[..count].iter_mut().enumerate() {
-        let rise = if round[j] == 0 { 0 } else { by };
+        let rise = if reached[j].is_some() { by } else { 0 };
         *sink += rise;
     }
 }
@@ -97,25 +101,25 @@ impl Tree {
     fn rooted(case: &Case, marks: &Marks, load: &Load, root: usize) -> Tree
         requires { (Limited case.now) × ((Marked case.now marks.now) × ((root < case.now.sinks) × (0 < at load.now.want root))) }
         ensures grown { Grown case.now marks.now load.now result }
-        ensures early { (j : ℕ) → at result.round j ≤ 1 }
+        ensures early { (j : ℕ) → round_at result.reached j ≤ 1 }
         ensures closed { sum_to (at result.closed) case.now.sources ≡ 0 }
         ensures root { result.root ≡ root }
     {
         let mut slack = [u32::MAX; 64];
         let mut toward = [root as u32; 64];
         relax(case, marks, &mut slack, &mut toward, root);
-        let mut round = [0; 64];
-        round[root] = 1;
-        let mut room = [0; 64];
-        room[root] = load.want[root];
+        let mut reached = [None; 64];
+        reached[root] = Some(Reached {
+            round: 0,
+            parent: 0,
+            room: load.want[root],
+        });
         Tree {
             root,
             slack,
             toward,
             closed: [0; 64],
-            round,
-            parent: [0; 64],
-            room,
+            reached,
         }
     }
 
@@ -132,13 +136,15 @@ impl Tree {
         requires known { (Limited case.now) × ((Marked case.now marks.now) × (Grown case.now marks.now load.now self.old)) }
         requires inside { (source < case.now.sources) × (sink < case.now.sinks) }
         requires serves { (at self.old.slack source ≡ 0) × (0 < cell load.now.flow source sink) }
-        requires anew { (at self.old.round sink ≡ 0) × (at self.old.round (at self.old.toward source) < round) }
-        ensures { Joined case.now marks.now load.now source sink round self.old self.new }
+        requires anew { (round_at self.old.reached sink ≡ 0) × (round_at self.old.reached (at self.old.toward source) ≤ round) }
+        ensures { Joined case.now marks.now load.now source sink (round + 1) self.old self.new }
     {
-        let ahead = self.toward[source] as usize;
-        self.room[sink] = self.room[ahead].min(load.flow[64 * source + sink]);
-        self.round[sink] = round;
-        self.parent[sink] = source;
+        let ahead = self.reached[self.toward[source] as usize].unwrap();
+        self.reached[sink] = Some(Reached {
+            round,
+            parent: source,
+            room: ahead.room.min(load.flow[64 * source + sink]),
+        });
         relax(case, marks, &mut self.slack, &mut self.toward, sink);
     }
 
@@ -147,11 +153,11 @@ impl Tree {
         requires known { (Limited case.now) × ((Marked case.now marks.now) × (Grown case.now marks.now load.now self.old)) }
         requires inside { source < case.now.sources }
         requires still { (at self.old.closed source ≡ 0) × ((at self.old.slack source ≡ 0) × (at load.now.stock source ≡ 0)) }
-        requires early { (j : ℕ) → j < case.now.sinks → at self.old.round j < round }
-        ensures { Absorbed case.now marks.now load.now round self.old self.new }
+        requires early { (j : ℕ) → j < case.now.sinks → round_at self.old.reached j ≤ round }
+        ensures { Absorbed case.now marks.now load.now (round + 1) self.old self.new }
     {
         for j in 0..case.sinks {
-            if load.flow[64 * source + j] > 0 && self.round[j] == 0 {
+            if load.flow[64 * source + j] > 0 && self.reached[j].is_none() {
                 self.join(case, marks, load, source, j, round);
             }
         }
@@ -170,14 +176,14 @@ impl Tree {
         }
         raise_sources(&mut marks.source, &self.closed, case.sources, by);
         lower_slacks(&mut self.slack, &self.closed, case.sources, by);
-        raise_sinks(&mut marks.sink, &self.round, case.sinks, by);
+        raise_sinks(&mut marks.sink, &self.reached, case.sinks, by);
     }
 
     // Grows the tree to a source that has something left, and raises the marks so that it is tight.
     fn grow(&mut self, case: &Case, marks: &mut Marks, load: &Load) -> usize
         requires known { (Limited case.now) × ((Marked case.now marks.old) × ((Tied case.now marks.old load.now) × (Grown case.now marks.old load.now self.old))) }
         requires stocked { 0 < sum_to (at load.now.stock) case.now.sources }
-        requires early { (((j : ℕ) → at self.old.round j ≤ 1)) × (sum_to (at self.old.closed) case.now.sources ≡ 0) }
+        requires early { (((j : ℕ) → round_at self.old.reached j ≤ 1)) × (sum_to (at self.old.closed) case.now.sources ≡ 0) }
         ensures { Found case.now marks.new load.now self.old.root self.new result }
     {
         for n in 0..case.sources {
@@ -186,8 +192,8 @@ impl Tree {
             if load.stock[source] > 0 {
                 return source;
             }
-            // The root was reached in round 1.
-            self.absorb(case, marks, load, source, n as u32 + 2);
+            // The root was reached in round 0.
+            self.absorb(case, marks, load, source, n as u32 + 1);
         }
         // Some source has something left, and such a one is never closed.
         unreachable()

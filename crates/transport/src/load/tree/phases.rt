@@ -1,7 +1,7 @@
 // The phases: each grows a tree and sends what it can from the source that it found to the root.
 ghost use Rattle.std.specs.Prelude.{◌≡◌, ℕ, ◌<◌, ◌≤◌, is_some, Some, None};
 ghost use Rattle.transport.specs.Transport.{at, cell, sum_to, within, Optimal};
-ghost use Rattle.transport.specs.Solver.{Limited, Marked, Tied, Summed, Way, Rerouted, Sent, Phased};
+ghost use Rattle.transport.specs.Solver.{room_at, Limited, Marked, Tied, Summed, Way, Rerouted, Sent, Phased};
 
 use crate::case::Case;
 use crate::load::tree::Tree;
@@ -13,7 +13,7 @@ impl Tree {
     // sends this on to the sink ahead of it, and so on; the case says how far the tree can reach.
     fn reroute(&self, case: &Case, flow: &mut [u32; 4096], mut source: usize, amount: u32)
         requires known { (Limited case.now) × (Way case.now flow.old self.now) }
-        requires inside { (source < case.now.sources) × ((at self.now.slack source ≡ 0) × (amount ≤ at self.now.room (at self.now.toward source))) }
+        requires inside { (source < case.now.sources) × ((at self.now.slack source ≡ 0) × (amount ≤ room_at self.now.reached (at self.now.toward source))) }
         requires small { (amount ≤ 1000000) × (((i : ℕ) → i < case.now.sources → sum_to (λ j. cell flow.old i j) case.now.sinks ≤ 1000000)) }
         ensures { Rerouted case.now self.now source amount flow.old flow.new }
     {
@@ -23,7 +23,7 @@ impl Tree {
             if sink == self.root {
                 return;
             }
-            source = self.parent[sink];
+            source = self.reached[sink].unwrap().parent;
             flow[64 * source + sink] -= amount;
         }
     }
@@ -32,12 +32,12 @@ impl Tree {
     fn augment(&self, case: &Case, load: &mut Load, source: usize)
         requires known { (Limited case.now) × ((Summed case.now load.old) × (Way case.now load.old.flow self.now)) }
         requires inside { (source < case.now.sources) × (at self.now.slack source ≡ 0) }
-        requires some { (0 < at load.old.stock source) × (0 < at self.now.room (at self.now.toward source)) }
-        requires root { (self.now.root < case.now.sinks) × (at self.now.room self.now.root ≡ at load.old.want self.now.root) }
+        requires some { (0 < at load.old.stock source) × (0 < room_at self.now.reached (at self.now.toward source)) }
+        requires root { (self.now.root < case.now.sinks) × (room_at self.now.reached self.now.root ≡ at load.old.want self.now.root) }
         ensures { Sent case.now self.now load.old load.new }
     {
-        let ahead = self.toward[source] as usize;
-        let amount = load.stock[source].min(self.room[ahead]);
+        let ahead = self.reached[self.toward[source] as usize].unwrap();
+        let amount = load.stock[source].min(ahead.room);
         self.reroute(case, &mut load.flow, source, amount);
         load.stock[source] -= amount;
         load.want[self.root] -= amount;

@@ -10,4 +10,4 @@ pub returns : goal.returns
 returns c =
     let known = c.requires.known in
     let tree = c.args.self.now in
-    raised c.args.case.now c.args.marks.now c.args.load.now known.0 known.1.0 known.1.1.0 c.args.source tree.root tree.slack tree.toward tree.closed tree.round tree.parent tree.room _ _ _ known.1.1.1 c.requires.rises c.raise_sources.ensures c.lower_slacks.ensures c.raise_sinks.ensures
+    raised c.args.case.now c.args.marks.now c.args.load.now known.0 known.1.0 known.1.1.0 c.args.source tree.root tree.slack tree.toward tree.closed _ _ _ tree.reached known.1.1.1 c.requires.rises c.raise_sources.ensures c.lower_slacks.ensures c.raise_sinks.ensures

@@ -1,4 +1,5 @@
-use Rattle.std.proofs.Common.{◌+◌, ◌-◌, ◌*◌, set, refl, arith}
+use Rattle.std.proofs.Common.{◌+◌, ◌-◌, ◌*◌, ◌≡◌, set, refl, ap, arith}
+use Rattle.transport.specs.Solver.{parent_of, parent_at}
 use Rattle.transport.specs.Transport.{at, cell}
 use Rattle.transport.proofs.Writes.{put_set}
 use Rattle.transport.proofs.Routes.{rerouting_more, rerouted, gives_little}
@@ -26,10 +27,12 @@ back-preserved c =
     let way = c.requires.known.1 in
     let inside = way.inside source c.back.invariant.inside in
     let met = way.met source c.back.invariant.inside in
-    let parent = at tree.parent sink in
+    let parent = parent_at tree.reached sink in
     let kept = (way.back sink inside met c.if-sink-self.false).inside in
     let flow1 = c.back.flow in
     let flow2 = set flow1 (64 * source + sink) (cell flow1 source sink + c.args.amount) in
     let give = put_set flow1 (64 * source + sink) (cell flow1 source sink + c.args.amount) (omega (arith, c.back.invariant.size, c.back.invariant.inside)) in
-    rerouting_more c.args.case.now tree c.args.amount c.args.source c.args.flow.now c.requires.known.0 way source sink refl flow1 flow2 c.back.invariant give _ c.if-sink-self.false
-    (put_set flow2 (64 * parent + sink) (cell flow2 parent sink - c.args.amount) (omega (arith, give.size, c.back.invariant.size)))
+    let from : parent ≡ c.unwrap-source.result.parent = ap parent_of c.unwrap-source.ensures in
+    rw (← from)
+    (rerouting_more c.args.case.now tree c.args.amount c.args.source c.args.flow.now c.requires.known.0 way source sink refl flow1 flow2 c.back.invariant give _ c.if-sink-self.false
+    (put_set flow2 (64 * parent + sink) (cell flow2 parent sink - c.args.amount) (omega (arith, give.size, c.back.invariant.size))))
