@@ -73,18 +73,18 @@ module _ (case : Case) (marks : Marks) (load : Load) (limited : Limited case) (m
       only j m = ⊎_elim (λ (e : j ≡ root). e) (λ (ne : j ≡ root → ⊥). absurd (let z : ⊥ = omega (arith, others j ne) in z)) (cases_eq j root)
 
   pub joined :
-      (root source sink n : ℕ) (slack toward closed slack' toward' : List ℕ) (reached reached' : List (Option Reached))
-      → Grown case marks load (record { root = root; slack = slack; toward = toward; closed = closed; reached = reached })
-      → source < case.sources → sink < case.sinks → at slack source ≡ 0 → 0 < cell load.flow source sink
-      → round_at reached sink ≡ 0 → round_at reached (at toward source) ≤ n
-      → Met reached reached' sink (record { round = n; parent = source; room = min (room_at reached (at toward source)) (cell load.flow source sink) })
-      → Relaxed case marks sink slack toward slack' toward'
-      → Joined case marks load source sink (n + 1) (record { root = root; slack = slack; toward = toward; closed = closed; reached = reached }) (record { root = root; slack = slack'; toward = toward'; closed = closed; reached = reached' })
-  joined root source sink n slack toward closed slack' toward' reached reached' g si sj none serves anew below met relaxed =
+      (tree : Tree) (source sink n : ℕ) (slack' toward' : List ℕ) (reached' : List (Option Reached))
+      → Grown case marks load tree
+      → source < case.sources → sink < case.sinks → at tree.slack source ≡ 0 → 0 < cell load.flow source sink
+      → round_at tree.reached sink ≡ 0 → round_at tree.reached (at tree.toward source) ≤ n
+      → Met tree.reached reached' sink (record { round = n; parent = source; room = min (room_at tree.reached (at tree.toward source)) (cell load.flow source sink) })
+      → Relaxed case marks sink tree.slack tree.toward slack' toward'
+      → Joined case marks load source sink (n + 1) tree (record tree { slack = slack'; toward = toward'; reached = reached' })
+  joined tree source sink n slack' toward' reached' g si sj none serves anew below met relaxed =
       record { grown = grown; reached = round_here; others = round_rest; closed = refl; root = refl; slack = (kept source si none).0; toward = (kept source si none).1 }
     where
-      kept : (i : ℕ) → i < case.sources → at slack i ≡ 0 → (at slack' i ≡ 0) × (at toward' i ≡ at toward i)
-      kept i l e = relaxed_none case marks sink slack toward slack' toward' i (relaxed.near i l) e
+      kept : (i : ℕ) → i < case.sources → at tree.slack i ≡ 0 → (at slack' i ≡ 0) × (at toward' i ≡ at tree.toward i)
+      kept i l e = relaxed_none case marks sink tree.slack tree.toward slack' toward' i (relaxed.near i l) e
 
       round_here : round_at reached' sink ≡ n + 1
       round_here = ap round_of met.here
@@ -92,30 +92,30 @@ module _ (case : Case) (marks : Marks) (load : Load) (limited : Limited case) (m
       parent_here : parent_at reached' sink ≡ source
       parent_here = ap parent_of met.here
 
-      room_here : room_at reached' sink ≡ min (room_at reached (at toward source)) (cell load.flow source sink)
+      room_here : room_at reached' sink ≡ min (room_at tree.reached (at tree.toward source)) (cell load.flow source sink)
       room_here = ap room_of met.here
 
-      round_rest : (j : ℕ) → (j ≡ sink → ⊥) → round_at reached' j ≡ round_at reached j
+      round_rest : (j : ℕ) → (j ≡ sink → ⊥) → round_at reached' j ≡ round_at tree.reached j
       round_rest j ne = ap round_of (met.rest j ne)
 
-      parent_rest : (j : ℕ) → (j ≡ sink → ⊥) → parent_at reached' j ≡ parent_at reached j
+      parent_rest : (j : ℕ) → (j ≡ sink → ⊥) → parent_at reached' j ≡ parent_at tree.reached j
       parent_rest j ne = ap parent_of (met.rest j ne)
 
-      room_rest : (j : ℕ) → (j ≡ sink → ⊥) → room_at reached' j ≡ room_at reached j
+      room_rest : (j : ℕ) → (j ≡ sink → ⊥) → room_at reached' j ≡ room_at tree.reached j
       room_rest j ne = ap room_of (met.rest j ne)
 
       -- a reached sink is another, and stays
-      other : (j : ℕ) → 0 < round_at reached j → j ≡ sink → ⊥
-      other j m e = let P : ℕ → Type 0 = λ k. 0 < round_at reached k in let z : 0 < round_at reached sink = subst P e m in omega arith
+      other : (j : ℕ) → 0 < round_at tree.reached j → j ≡ sink → ⊥
+      other j m e = let P : ℕ → Type 0 = λ k. 0 < round_at tree.reached k in let z : 0 < round_at tree.reached sink = subst P e m in omega arith
 
-      stays : (j : ℕ) → 0 < round_at reached j → 0 < round_at reached' j
+      stays : (j : ℕ) → 0 < round_at tree.reached j → 0 < round_at reached' j
       stays j m = omega (arith, round_rest j (other j m))
 
-      grown : Grown case marks load (record { root = root; slack = slack'; toward = toward'; closed = closed; reached = reached' })
+      grown : Grown case marks load (record tree { slack = slack'; toward = toward'; reached = reached' })
       grown =
           record {
             inside = λ i l. elim (relaxed.near i l) [ inl s ↦ omega (arith, s.1, g.inside i l) | inr s ↦ omega (arith, s.0) ];
-            met = λ i l. elim (relaxed.near i l) [ inl s ↦ rw s.1 (stays (at toward i) (g.met i l)) | inr s ↦ rw s.0 (omega (arith, round_here)) ];
+            met = λ i l. elim (relaxed.near i l) [ inl s ↦ rw s.1 (stays (at tree.toward i) (g.met i l)) | inr s ↦ rw s.0 (omega (arith, round_here)) ];
             gap = λ i l. elim (relaxed.near i l) [ inl s ↦ rw s.1 (omega (arith, s.0, g.gap i l)) | inr s ↦ rw s.0 (omega (arith, s.1)) ];
             least = least;
             flag = g.flag;
@@ -125,8 +125,8 @@ module _ (case : Case) (marks : Marks) (load : Load) (limited : Limited case) (m
             roomy = roomy;
             back = back;
             root_inside = g.root_inside;
-            root_met = stays root g.root_met;
-            root_room = room_rest root (other root g.root_met) ∙ g.root_room;
+            root_met = stays tree.root g.root_met;
+            root_room = room_rest tree.root (other tree.root g.root_met) ∙ g.root_room;
             slacks = relaxed.slacks;
             towards = relaxed.towards;
             closeds = g.closeds;
@@ -138,28 +138,28 @@ module _ (case : Case) (marks : Marks) (load : Load) (limited : Limited case) (m
               ⊎_elim
               (λ (e : j ≡ sink). rw e (elim (relaxed.near i li) [ inl s ↦ omega (arith, s.0, s.2) | inr s ↦ omega (arith, s.1) ]))
               (λ (ne : j ≡ sink → ⊥).
-              let was : at marks.sink j + at slack i ≤ at marks.source i + cost_of case i j = g.least i j li lj (omega (arith, round_rest j ne)) in
+              let was : at marks.sink j + at tree.slack i ≤ at marks.source i + cost_of case i j = g.least i j li lj (omega (arith, round_rest j ne)) in
               elim (relaxed.near i li) [ inl s ↦ omega (arith, s.0) | inr s ↦ omega (arith, s.2) ])
               (cases_eq j sink)
 
           roomy : (j : ℕ) → j < case.sinks → 0 < round_at reached' j → 0 < room_at reached' j
           roomy j lj m =
               ⊎_elim
-              (λ (e : j ≡ sink). rw e (omega (arith, room_here, g.roomy (at toward source) (g.inside source si) (g.met source si))))
+              (λ (e : j ≡ sink). rw e (omega (arith, room_here, g.roomy (at tree.toward source) (g.inside source si) (g.met source si))))
               (λ (ne : j ≡ sink → ⊥). omega (arith, room_rest j ne, g.roomy j lj (omega (arith, round_rest j ne))))
               (cases_eq j sink)
 
-          back : (j : ℕ) → j < case.sinks → 0 < round_at reached' j → (j ≡ root → ⊥) → Back case load.flow (record { root = root; slack = slack'; toward = toward'; closed = closed; reached = reached' }) j
+          back : (j : ℕ) → j < case.sinks → 0 < round_at reached' j → (j ≡ tree.root → ⊥) → Back case load.flow (record tree { slack = slack'; toward = toward'; reached = reached' }) j
           back j lj m nr =
               ⊎_elim
               (λ (e : j ≡ sink).
-              let t = at toward source in
+              let t = at tree.toward source in
               let far : t ≡ sink → ⊥ = other t (g.met source si) in
               rw e (back_by case load.flow _ sink source t parent_here (kept source si none).1 si (kept source si none).0 (omega (arith, room_here)) (omega (arith, room_here, room_rest t far)) (omega (arith, round_here, round_rest t far))))
               (λ (ne : j ≡ sink → ⊥).
               let b = g.back j lj (omega (arith, round_rest j ne)) nr in
-              let p = parent_at reached j in
-              let t = at toward p in
+              let p = parent_at tree.reached j in
+              let t = at tree.toward p in
               let far : t ≡ sink → ⊥ = other t (g.met p b.inside) in
               back_by case load.flow _ j p t (parent_rest j ne) (kept p b.inside b.slack).1 b.inside (kept p b.inside b.slack).0
               (omega (arith, b.served, room_rest j ne)) (omega (arith, b.room, room_rest j ne, room_rest t far)) (omega (arith, b.round, round_rest j ne, round_rest t far)))
@@ -197,28 +197,28 @@ module _ (case : Case) (marks : Marks) (load : Load) (source round : ℕ) (tree 
       other e = let m : 0 < round_at tree'.reached (at tree'.toward source) = a.grown.met source ls in let P : ℕ → Type 0 = λ k. 0 < round_at tree'.reached k in let z : 0 < round_at tree'.reached j = subst P e m in omega arith
 
   pub absorbed :
-      (root : ℕ) (slack' toward' closed' closed'' : List ℕ) (reached' : List (Option Reached))
-      → Absorbing case marks load source round case.sinks tree (record { root = root; slack = slack'; toward = toward'; closed = closed'; reached = reached' })
+      (tree' : Tree) (closed'' : List ℕ)
+      → Absorbing case marks load source round case.sinks tree tree'
       → source < case.sources → at tree.closed source ≡ 0 → at load.stock source ≡ 0
-      → Put closed' closed'' source 4294967295
-      → Absorbed case marks load round tree (record { root = root; slack = slack'; toward = toward'; closed = closed''; reached = reached' })
-  absorbed root slack' toward' closed' closed'' reached' a ls still empty put =
+      → Put tree'.closed closed'' source 4294967295
+      → Absorbed case marks load round tree (record tree' { closed = closed'' })
+  absorbed tree' closed'' a ls still empty put =
       record { grown = grown; early = a.early; closed = total; root = a.root }
     where
-      before : Grown case marks load (record { root = root; slack = slack'; toward = toward'; closed = closed'; reached = reached' })
+      before : Grown case marks load tree'
       before = a.grown
 
       total : sum_to (at closed'') case.sources ≡ sum_to (at tree.closed) case.sources + 4294967295
       total =
-          let same : (k : ℕ) → at closed' k ≡ at tree.closed k = λ k. ap (λ xs. at xs k) a.closed in
+          let same : (k : ℕ) → at tree'.closed k ≡ at tree.closed k = λ k. ap (λ xs. at xs k) a.closed in
           let change = sum_change (at tree.closed) (at closed'') case.sources source ls (λ k lk ne. put.rest k ne ∙ same k) in
           omega (arith, put.here)
 
       -- the source itself, or one that was closed before
-      by_closed : (i : ℕ) → 0 < at closed'' i → (i ≡ source) ⊎ (0 < at closed' i)
+      by_closed : (i : ℕ) → 0 < at closed'' i → (i ≡ source) ⊎ (0 < at tree'.closed i)
       by_closed i c = ⊎_elim (λ (e : i ≡ source). inl e) (λ (ne : i ≡ source → ⊥). inr (omega (arith, put.rest i ne))) (cases_eq i source)
 
-      grown : Grown case marks load (record { root = root; slack = slack'; toward = toward'; closed = closed''; reached = reached' })
+      grown : Grown case marks load (record tree' { closed = closed'' })
       grown =
           record {
             inside = before.inside;
@@ -283,93 +283,92 @@ module _ (case : Case) (marks : Marks) (load : Load) (limited : Limited case) (m
   -- a source that is tight as it stands
   pub tightened_already : (tree : Tree) (source : ℕ) → Grown case marks load tree → Rising case marks tree source → at tree.slack source ≡ 0 → Tightened case load source tree marks tree
   tightened_already tree source g rise none =
-      record { marked = marked; tied = tied; grown = g; inside = rise.inside; slack = none; still = rise.still; closed = refl; reached = refl; root = refl }
+      record { grown = g; inside = rise.inside; slack = none; still = rise.still; closed = refl; reached = refl; root = refl }
 
-  pub raised :
-      (source root : ℕ) (slack toward closed source' slack' sink' : List ℕ) (reached : List (Option Reached))
-      → Grown case marks load (record { root = root; slack = slack; toward = toward; closed = closed; reached = reached })
-      → Rising case marks (record { root = root; slack = slack; toward = toward; closed = closed; reached = reached }) source
-      → Raised (at closed) case.sources (at slack source) marks.source source'
-      → Lowered (at closed) case.sources (at slack source) slack slack'
-      → Raised (round_at reached) case.sinks (at slack source) marks.sink sink'
-      → Tightened case load source (record { root = root; slack = slack; toward = toward; closed = closed; reached = reached }) (record { source = source'; sink = sink' }) (record { root = root; slack = slack'; toward = toward; closed = closed; reached = reached })
-  raised source root slack toward closed source' slack' sink' reached g rise sources slacks sinks =
-      record { marked = marked'; tied = tied'; grown = grown'; inside = rise.inside; slack = omega (arith, slacks.lowered source rise.inside rise.still); still = rise.still; closed = refl; reached = refl; root = refl }
-    where
-      of_source : (i : ℕ) → i < case.sources → ((at closed i ≡ 0) × (at source' i ≡ at marks.source i) × (at slack' i + at slack source ≡ at slack i)) ⊎ ((0 < at closed i) × (at source' i ≡ at marks.source i + at slack source) × (at slack' i ≡ at slack i))
-      of_source i l =
-          ⊎_elim
-          (λ (e : at closed i ≡ 0). inl (e, sources.still i l e, slacks.lowered i l e))
-          (λ (ne : at closed i ≡ 0 → ⊥). let c : 0 < at closed i = omega arith in inr (c, sources.raised i l c, slacks.still i l c))
-          (cases_eq (at closed i) 0)
+  -- marks and slacks after the marks in the tree rose by the slack of a source
+  module _
+      (tree : Tree) (source : ℕ) (source' slack' sink' : List ℕ)
+      (g : Grown case marks load tree) (rise : Rising case marks tree source)
+      (sources : Raised (at tree.closed) case.sources (at tree.slack source) marks.source source')
+      (slacks : Lowered (at tree.closed) case.sources (at tree.slack source) tree.slack slack')
+      (sinks : Raised (round_at tree.reached) case.sinks (at tree.slack source) marks.sink sink') where
+    of_source : (i : ℕ) → i < case.sources → ((at tree.closed i ≡ 0) × (at source' i ≡ at marks.source i) × (at slack' i + at tree.slack source ≡ at tree.slack i)) ⊎ ((0 < at tree.closed i) × (at source' i ≡ at marks.source i + at tree.slack source) × (at slack' i ≡ at tree.slack i))
+    of_source i l =
+        ⊎_elim
+        (λ (e : at tree.closed i ≡ 0). inl (e, sources.still i l e, slacks.lowered i l e))
+        (λ (ne : at tree.closed i ≡ 0 → ⊥). let c : 0 < at tree.closed i = omega arith in inr (c, sources.raised i l c, slacks.still i l c))
+        (cases_eq (at tree.closed i) 0)
 
-      of_sink : (j : ℕ) → j < case.sinks → ((round_at reached j ≡ 0) × (at sink' j ≡ at marks.sink j)) ⊎ ((0 < round_at reached j) × (at sink' j ≡ at marks.sink j + at slack source))
-      of_sink j l =
-          ⊎_elim
-          (λ (e : round_at reached j ≡ 0). inl (e, sinks.still j l e))
-          (λ (ne : round_at reached j ≡ 0 → ⊥). let m : 0 < round_at reached j = omega arith in inr (m, sinks.raised j l m))
-          (cases_eq (round_at reached j) 0)
+    of_sink : (j : ℕ) → j < case.sinks → ((round_at tree.reached j ≡ 0) × (at sink' j ≡ at marks.sink j)) ⊎ ((0 < round_at tree.reached j) × (at sink' j ≡ at marks.sink j + at tree.slack source))
+    of_sink j l =
+        ⊎_elim
+        (λ (e : round_at tree.reached j ≡ 0). inl (e, sinks.still j l e))
+        (λ (ne : round_at tree.reached j ≡ 0 → ⊥). let m : 0 < round_at tree.reached j = omega arith in inr (m, sinks.raised j l m))
+        (cases_eq (round_at tree.reached j) 0)
 
-      fair : (i j : ℕ) → i < case.sources → j < case.sinks → at sink' j ≤ at source' i + cost_of case i j
-      fair i j li lj =
-          let was : at marks.sink j ≤ at marks.source i + cost_of case i j = marked.fair i j li lj in
-          elim (of_source i li) [
-            | inl s ↦ elim (of_sink j lj) [ inl t ↦ omega (arith, s.1, t.1) | inr t ↦ omega (arith, s.1, s.2, t.1, g.least i j li lj t.0) ]
-            | inr s ↦ elim (of_sink j lj) [ inl t ↦ omega (arith, s.1, t.1) | inr t ↦ omega (arith, s.1, t.1) ]
-          ]
+    fair : (i j : ℕ) → i < case.sources → j < case.sinks → at sink' j ≤ at source' i + cost_of case i j
+    fair i j li lj =
+        let was : at marks.sink j ≤ at marks.source i + cost_of case i j = marked.fair i j li lj in
+        elim (of_source i li) [
+          | inl s ↦ elim (of_sink j lj) [ inl t ↦ omega (arith, s.1, t.1) | inr t ↦ omega (arith, s.1, s.2, t.1, g.least i j li lj t.0) ]
+          | inr s ↦ elim (of_sink j lj) [ inl t ↦ omega (arith, s.1, t.1) | inr t ↦ omega (arith, s.1, t.1) ]
+        ]
 
-      tight : (i j : ℕ) → i < case.sources → j < case.sinks → 0 < cell load.flow i j → at sink' j ≡ at source' i + cost_of case i j
-      tight i j li lj f =
-          let was : at marks.sink j ≡ at marks.source i + cost_of case i j = tied.tight i j li lj f in
-          elim (of_source i li) [
-            | inl s ↦ elim (of_sink j lj) [ inl t ↦ omega (arith, s.1, t.1) | inr t ↦ omega (arith, s.1, s.2, t.1, g.least i j li lj t.0) ]
-            | inr s ↦ elim (of_sink j lj) [ inl t ↦ absurd (let z : ⊥ = omega (arith, t.0, g.shut_served i j li lj s.0 f) in z) | inr t ↦ omega (arith, s.1, t.1) ]
-          ]
+    tight : (i j : ℕ) → i < case.sources → j < case.sinks → 0 < cell load.flow i j → at sink' j ≡ at source' i + cost_of case i j
+    tight i j li lj f =
+        let was : at marks.sink j ≡ at marks.source i + cost_of case i j = tied.tight i j li lj f in
+        elim (of_source i li) [
+          | inl s ↦ elim (of_sink j lj) [ inl t ↦ omega (arith, s.1, t.1) | inr t ↦ omega (arith, s.1, s.2, t.1, g.least i j li lj t.0) ]
+          | inr s ↦ elim (of_sink j lj) [ inl t ↦ absurd (let z : ⊥ = omega (arith, t.0, g.shut_served i j li lj s.0 f) in z) | inr t ↦ omega (arith, s.1, t.1) ]
+        ]
 
-      marked' : Marked case (record { source = source'; sink = sink' })
-      marked' =
-          record {
-            fair = fair;
-            source_marks = λ i l. elim (of_source i l) [ inl s ↦ omega (arith, s.1, marked.source_marks i l) | inr s ↦ omega (arith, s.1, rise.sources i l s.0) ];
-            sink_marks = λ j l. elim (of_sink j l) [ inl t ↦ omega (arith, t.1, marked.sink_marks j l) | inr t ↦ omega (arith, t.1, rise.sinks j l t.0) ];
-            sources = sources.size;
-            sinks = sinks.size;
-          }
+    pub raised_marked : Marked case (record { source = source'; sink = sink' })
+    raised_marked =
+        record {
+          fair = fair;
+          source_marks = λ i l. elim (of_source i l) [ inl s ↦ omega (arith, s.1, marked.source_marks i l) | inr s ↦ omega (arith, s.1, rise.sources i l s.0) ];
+          sink_marks = λ j l. elim (of_sink j l) [ inl t ↦ omega (arith, t.1, marked.sink_marks j l) | inr t ↦ omega (arith, t.1, rise.sinks j l t.0) ];
+          sources = sources.size;
+          sinks = sinks.size;
+        }
 
-      tied' : Tied case (record { source = source'; sink = sink' }) load
-      tied' =
-          record {
-            tight = tight;
-            unraised = λ i l f. elim (of_source i l) [ inl s ↦ omega (arith, s.1, tied.unraised i l f) | inr s ↦ absurd (let z : ⊥ = omega (arith, g.shut_stock i l s.0) in z) ];
-          }
+    pub raised_tied : Tied case (record { source = source'; sink = sink' }) load
+    raised_tied =
+        record {
+          tight = tight;
+          unraised = λ i l f. elim (of_source i l) [ inl s ↦ omega (arith, s.1, tied.unraised i l f) | inr s ↦ absurd (let z : ⊥ = omega (arith, g.shut_stock i l s.0) in z) ];
+        }
 
-      slack_stays : (i : ℕ) → i < case.sources → at slack i ≡ 0 → at slack' i ≡ 0
-      slack_stays i l e = elim (of_source i l) [ inl s ↦ omega (arith, s.2) | inr s ↦ omega (arith, s.2) ]
+    slack_stays : (i : ℕ) → i < case.sources → at tree.slack i ≡ 0 → at slack' i ≡ 0
+    slack_stays i l e = elim (of_source i l) [ inl s ↦ omega (arith, s.2) | inr s ↦ omega (arith, s.2) ]
 
-      grown' : Grown case (record { source = source'; sink = sink' }) load (record { root = root; slack = slack'; toward = toward; closed = closed; reached = reached })
-      grown' =
-          record {
-            inside = g.inside;
-            met = g.met;
-            gap =
-                λ i l.
-                let lifted : at sink' (at toward i) ≡ at marks.sink (at toward i) + at slack source = sinks.raised (at toward i) (g.inside i l) (g.met i l) in
-                elim (of_source i l) [ inl s ↦ omega (arith, s.1, s.2, g.gap i l) | inr s ↦ omega (arith, s.1, s.2, g.gap i l) ];
-            least =
-                λ i j li lj m.
-                let lifted : at sink' j ≡ at marks.sink j + at slack source = sinks.raised j lj m in
-                elim (of_source i li) [ inl s ↦ omega (arith, s.1, s.2, g.least i j li lj m) | inr s ↦ omega (arith, s.1, s.2, g.least i j li lj m) ];
-            flag = g.flag;
-            shut_slack = λ i l c. slack_stays i l (g.shut_slack i l c);
-            shut_stock = g.shut_stock;
-            shut_served = g.shut_served;
-            roomy = g.roomy;
-            back = λ j lj m ne. let b = g.back j lj m ne in record { inside = b.inside; slack = slack_stays (parent_at reached j) b.inside b.slack; served = b.served; room = b.room; round = b.round };
-            root_inside = g.root_inside;
-            root_met = g.root_met;
-            root_room = g.root_room;
-            slacks = slacks.size;
-            towards = g.towards;
-            closeds = g.closeds;
-            reacheds = g.reacheds;
-          }
+    grown' : Grown case (record { source = source'; sink = sink' }) load (record tree { slack = slack' })
+    grown' =
+        record {
+          inside = g.inside;
+          met = g.met;
+          gap =
+              λ i l.
+              let lifted : at sink' (at tree.toward i) ≡ at marks.sink (at tree.toward i) + at tree.slack source = sinks.raised (at tree.toward i) (g.inside i l) (g.met i l) in
+              elim (of_source i l) [ inl s ↦ omega (arith, s.1, s.2, g.gap i l) | inr s ↦ omega (arith, s.1, s.2, g.gap i l) ];
+          least =
+              λ i j li lj m.
+              let lifted : at sink' j ≡ at marks.sink j + at tree.slack source = sinks.raised j lj m in
+              elim (of_source i li) [ inl s ↦ omega (arith, s.1, s.2, g.least i j li lj m) | inr s ↦ omega (arith, s.1, s.2, g.least i j li lj m) ];
+          flag = g.flag;
+          shut_slack = λ i l c. slack_stays i l (g.shut_slack i l c);
+          shut_stock = g.shut_stock;
+          shut_served = g.shut_served;
+          roomy = g.roomy;
+          back = λ j lj m ne. let b = g.back j lj m ne in record { inside = b.inside; slack = slack_stays (parent_at tree.reached j) b.inside b.slack; served = b.served; room = b.room; round = b.round };
+          root_inside = g.root_inside;
+          root_met = g.root_met;
+          root_room = g.root_room;
+          slacks = slacks.size;
+          towards = g.towards;
+          closeds = g.closeds;
+          reacheds = g.reacheds;
+        }
+
+    pub raised : Tightened case load source tree (record { source = source'; sink = sink' }) (record tree { slack = slack' })
+    raised = record { grown = grown'; inside = rise.inside; slack = omega (arith, slacks.lowered source rise.inside rise.still); still = rise.still; closed = refl; reached = refl; root = refl }

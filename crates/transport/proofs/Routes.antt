@@ -6,7 +6,7 @@ use Rattle.transport.specs.declared.load.Marks.{Marks}
 use Rattle.transport.specs.declared.load.Load.{Load}
 use Rattle.transport.specs.declared.load.tree.Tree.{Tree}
 use Rattle.transport.specs.Transport.{at, cell, cost_of, sum_to}
-use Rattle.transport.specs.Solver.{round_at, parent_at, room_at, Limited, Tied, Summed, Put, Back, Way, Grown, Rerouted, Sent, part}
+use Rattle.transport.specs.Solver.{round_at, parent_at, room_at, Limited, Tied, Summed, Put, Back, Way, Grown, Rerouted, part}
 use Rattle.transport.proofs.Sums.{sum_change, sum_same, sum_at}
 
 pub part_same : (k i a : ℕ) → k ≡ i → part k i a ≡ a
@@ -58,7 +58,7 @@ pub record Rerouting (case : Case) (tree : Tree) (amount start : ℕ) (flow : Li
   pub served : (j : ℕ) → j < case.sinks → 0 < round_at tree.reached j → (j ≡ tree.root → ⊥) → round_at tree.reached j ≤ round_at tree.reached (at tree.toward source) → room_at tree.reached j ≤ cell flow' (parent_at tree.reached j) j
   pub size : length flow' ≡ 4096
 
-module _ (case : Case) (tree : Tree) (amount start : ℕ) (flow : List ℕ) (limited : Limited case) (way : Way case flow tree) where
+module _ (case : Case) (tree : Tree) (amount start : ℕ) (flow : List ℕ) (way : Way case flow tree) where
   module _ (source sink : ℕ) (ahead : at tree.toward source ≡ sink) (flow1 flow2 : List ℕ) (r : Rerouting case tree amount start flow source flow1) (give : Put flow1 flow2 (64 * source + sink) (cell flow1 source sink + amount)) where
     sink_inside : sink < case.sinks
     sink_inside = omega (arith, way.inside source r.inside)
@@ -69,19 +69,19 @@ module _ (case : Case) (tree : Tree) (amount start : ℕ) (flow : List ℕ) (lim
     given_rows : (k : ℕ) → k < case.sources → sum_to (λ j. cell flow2 k j) case.sinks ≡ sum_to (λ j. cell flow k j) case.sinks + part k start amount
     given_rows k l =
         let moved : cell flow1 source sink + amount + 0 ≡ cell flow1 source sink + amount = omega arith in
-        omega (arith, row_moves flow1 flow2 source sink (cell flow1 source sink + amount) amount 0 (omega (arith, sink_inside, limited.few)) give moved case.sinks sink_inside (omega (arith, limited.few)) k, r.rows k l, part_none k source)
+        omega (arith, row_moves flow1 flow2 source sink (cell flow1 source sink + amount) amount 0 (omega (arith, sink_inside, way.few)) give moved case.sinks sink_inside (omega (arith, way.few)) k, r.rows k l, part_none k source)
 
     given_columns : (k : ℕ) → k < case.sinks → sum_to (λ i. cell flow2 i k) case.sources ≡ sum_to (λ i. cell flow i k) case.sources + part k sink amount
     given_columns k l =
         let moved : cell flow1 source sink + amount + 0 ≡ cell flow1 source sink + amount = omega arith in
-        omega (arith, column_moves flow1 flow2 source sink (cell flow1 source sink + amount) amount 0 (omega (arith, sink_inside, limited.few)) give moved case.sources r.inside k (omega (arith, limited.few)), r.columns k l, part_none k sink)
+        omega (arith, column_moves flow1 flow2 source sink (cell flow1 source sink + amount) amount 0 (omega (arith, sink_inside, way.few)) give moved case.sources r.inside k (omega (arith, way.few)), r.columns k l, part_none k sink)
 
     given_fresh : (i j : ℕ) → i < case.sources → j < case.sinks → 0 < cell flow2 i j → (0 < cell flow i j) ⊎ ((at tree.slack i ≡ 0) × (at tree.toward i ≡ j))
     given_fresh i j li lj f =
         ⊎_elim
         (λ (e : 64 * i + j ≡ 64 * source + sink).
-        let si : i ≡ source = omega (arith, sink_inside, limited.few) in
-        let sj : j ≡ sink = omega (arith, sink_inside, limited.few) in
+        let si : i ≡ source = omega (arith, sink_inside, way.few) in
+        let sj : j ≡ sink = omega (arith, sink_inside, way.few) in
         inr (rw si r.slack, rw (si, sj) ahead))
         (λ (ne : 64 * i + j ≡ 64 * source + sink → ⊥). r.fresh i j li lj (omega (arith, give.rest (64 * i + j) ne)))
         (cases_eq (64 * i + j) (64 * source + sink))
@@ -117,16 +117,16 @@ module _ (case : Case) (tree : Tree) (amount start : ℕ) (flow : List ℕ) (lim
         room = rw ahead at r.fits
 
         few : sink < 64
-        few = omega (arith, sink_inside, limited.few)
+        few = omega (arith, sink_inside, way.few)
 
         moved : cell flow2 (parent_at tree.reached sink) sink - amount + amount ≡ cell flow2 (parent_at tree.reached sink) sink + 0
         moved = omega (arith, parent_serves ne)
 
         rows : (k : ℕ) → k < case.sources → sum_to (λ j. cell flow3 k j) case.sinks + part k (parent_at tree.reached sink) amount ≡ sum_to (λ j. cell flow k j) case.sinks + part k start amount
-        rows k l = omega (arith, row_moves flow2 flow3 (parent_at tree.reached sink) sink (cell flow2 (parent_at tree.reached sink) sink - amount) 0 amount few take moved case.sinks sink_inside (omega (arith, limited.few)) k, given_rows k l, part_none k (parent_at tree.reached sink))
+        rows k l = omega (arith, row_moves flow2 flow3 (parent_at tree.reached sink) sink (cell flow2 (parent_at tree.reached sink) sink - amount) 0 amount few take moved case.sinks sink_inside (omega (arith, way.few)) k, given_rows k l, part_none k (parent_at tree.reached sink))
 
         columns : (k : ℕ) → k < case.sinks → sum_to (λ i. cell flow3 i k) case.sources ≡ sum_to (λ i. cell flow i k) case.sources
-        columns k l = omega (arith, column_moves flow2 flow3 (parent_at tree.reached sink) sink (cell flow2 (parent_at tree.reached sink) sink - amount) 0 amount few take moved case.sources b.inside k (omega (arith, limited.few)), given_columns k l, part_none k sink)
+        columns k l = omega (arith, column_moves flow2 flow3 (parent_at tree.reached sink) sink (cell flow2 (parent_at tree.reached sink) sink - amount) 0 amount few take moved case.sources b.inside k (omega (arith, way.few)), given_columns k l, part_none k sink)
 
         less : (p : ℕ) → at flow3 p ≤ at flow2 p
         less p =
@@ -141,7 +141,7 @@ module _ (case : Case) (tree : Tree) (amount start : ℕ) (flow : List ℕ) (lim
         served : (j : ℕ) → j < case.sinks → 0 < round_at tree.reached j → (j ≡ tree.root → ⊥) → round_at tree.reached j ≤ round_at tree.reached (at tree.toward (parent_at tree.reached sink)) → room_at tree.reached j ≤ cell flow3 (parent_at tree.reached j) j
         served j lj m nr le =
             let other : j ≡ sink → ⊥ = λ e. omega (arith, b.round, ap (round_at tree.reached) e) in
-            let apart : 64 * parent_at tree.reached j + j ≡ 64 * parent_at tree.reached sink + sink → ⊥ = λ e. other (omega (arith, few, limited.few)) in
+            let apart : 64 * parent_at tree.reached j + j ≡ 64 * parent_at tree.reached sink + sink → ⊥ = λ e. other (omega (arith, few, way.few)) in
             let level : round_at tree.reached j ≤ round_at tree.reached (at tree.toward source) = rw ahead (omega (arith, b.round)) in
             omega (arith, take.rest (64 * parent_at tree.reached j + j) apart, given_more (64 * parent_at tree.reached j + j), r.served j lj m nr level)
 
@@ -162,43 +162,43 @@ put_falls xs xs' i a put l k =
 sum_falls : (xs xs' : List ℕ) (i a n : ℕ) → Put xs xs' i (at xs i - a) → a ≤ at xs i → i < n → sum_to (at xs') n + a ≡ sum_to (at xs) n
 sum_falls xs xs' i a n put l li = omega (arith, sum_change (at xs) (at xs') n i li (λ k lk ne. put.rest k ne), put.here)
 
-pub sent :
-    (case : Case) (tree : Tree) (load : Load) (source amount : ℕ) (flow' stock' want' : List ℕ)
-    → Summed case load → source < case.sources → tree.root < case.sinks
-    → 0 < amount → amount ≤ at load.stock source → room_at tree.reached tree.root ≡ at load.want tree.root
-    → Rerouted case tree source amount load.flow flow'
-    → Put load.stock stock' source (at load.stock source - amount)
-    → Put load.want want' tree.root (at load.want tree.root - amount)
-    → Sent case tree load (record { flow = flow'; stock = stock'; want = want' })
-sent case tree load source amount flow' stock' want' s li lr some fits room moved stock want =
-    let wanted : amount ≤ at load.want tree.root = omega (arith, moved.fits) in
-    let stocks = sum_falls load.stock stock' source amount case.sources stock fits li in
-    let wants = sum_falls load.want want' tree.root amount case.sinks want wanted lr in
-    record {
-      summed =
-          record {
-            sent = λ i l. omega (arith, moved.rows i l, s.sent i l, put_falls load.stock stock' source amount stock fits i);
-            received = λ j l. omega (arith, moved.columns j l, s.received j l, put_falls load.want want' tree.root amount want wanted j);
-            even = omega (arith, s.even);
-            flows = moved.size;
-            stocks = stock.size ∙ s.stocks;
-            wants = want.size ∙ s.wants;
-          };
-      fewer = omega arith;
-      fresh = moved.fresh;
-      stocks = λ i. omega (arith, put_falls load.stock stock' source amount stock fits i);
-    }
+pub way_of : (case : Case) (marks : Marks) (load : Load) (tree : Tree) → Limited case → Grown case marks load tree → Way case load.flow tree
+way_of case marks load tree limited g = record { few = limited.few; inside = g.inside; met = g.met; back = g.back }
 
-pub way_of : (case : Case) (marks : Marks) (load : Load) (tree : Tree) → Grown case marks load tree → Way case load.flow tree
-way_of case marks load tree g = record { inside = g.inside; met = g.met; back = g.back }
+-- the load after an amount was sent from a source to the root of a tree
+module _
+    (case : Case) (marks : Marks) (load : Load) (tree : Tree) (source amount : ℕ) (flow' stock' want' : List ℕ)
+    (g : Grown case marks load tree) (inside : source < case.sources) (fits : amount ≤ at load.stock source)
+    (moved : Rerouted case tree source amount load.flow flow')
+    (stock : Put load.stock stock' source (at load.stock source - amount))
+    (want : Put load.want want' tree.root (at load.want tree.root - amount)) where
+  wanted : amount ≤ at load.want tree.root
+  wanted = omega (arith, moved.fits, g.root_room)
 
--- the marks agree with the load after something was sent
-pub still_tied : (case : Case) (marks : Marks) (load load' : Load) (tree : Tree) → Tied case marks load → Grown case marks load tree → Sent case tree load load' → Tied case marks load'
-still_tied case marks load load' tree tied g s =
-    record {
-      tight = λ i j li lj f. elim (s.fresh i j li lj f) [ inl was ↦ tied.tight i j li lj was | inr new ↦ tight i j li new ];
-      unraised = λ i l f. tied.unraised i l (omega (arith, s.stocks i));
-    }
-  where
-    tight : (i j : ℕ) → i < case.sources → (at tree.slack i ≡ 0) × (at tree.toward i ≡ j) → at marks.sink j ≡ at marks.source i + cost_of case i j
-    tight i j li new = let P : ℕ → Type 0 = λ t. at marks.sink t + at tree.slack i ≡ at marks.source i + cost_of case i t in let gap : at marks.sink j + at tree.slack i ≡ at marks.source i + cost_of case i j = subst P new.1 (g.gap i li) in omega (arith, new.0)
+  wants_fall : sum_to (at want') case.sinks + amount ≡ sum_to (at load.want) case.sinks
+  wants_fall = sum_falls load.want want' tree.root amount case.sinks want wanted g.root_inside
+
+  pub fewer_wants : 0 < amount → sum_to (at want') case.sinks < sum_to (at load.want) case.sinks
+  fewer_wants some = omega (arith, wants_fall)
+
+  pub still_summed : Summed case load → Summed case (record { flow = flow'; stock = stock'; want = want' })
+  still_summed s =
+      record {
+        sent = λ i l. omega (arith, moved.rows i l, s.sent i l, put_falls load.stock stock' source amount stock fits i);
+        received = λ j l. omega (arith, moved.columns j l, s.received j l, put_falls load.want want' tree.root amount want wanted j);
+        even = omega (arith, s.even, wants_fall, sum_falls load.stock stock' source amount case.sources stock fits inside);
+        flows = moved.size;
+        stocks = stock.size ∙ s.stocks;
+        wants = want.size ∙ s.wants;
+      }
+
+  -- what flows anew flows where it is tight
+  pub still_tied : Tied case marks load → Tied case marks (record { flow = flow'; stock = stock'; want = want' })
+  still_tied tied =
+      record {
+        tight = λ i j li lj f. elim (moved.fresh i j li lj f) [ inl was ↦ tied.tight i j li lj was | inr new ↦ tight i j li new ];
+        unraised = λ i l f. tied.unraised i l (omega (arith, put_falls load.stock stock' source amount stock fits i));
+      }
+    where
+      tight : (i j : ℕ) → i < case.sources → (at tree.slack i ≡ 0) × (at tree.toward i ≡ j) → at marks.sink j ≡ at marks.source i + cost_of case i j
+      tight i j li new = let P : ℕ → Type 0 = λ t. at marks.sink t + at tree.slack i ≡ at marks.source i + cost_of case i t in let gap : at marks.sink j + at tree.slack i ≡ at marks.source i + cost_of case i j = subst P new.1 (g.gap i li) in omega (arith, new.0)

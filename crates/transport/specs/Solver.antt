@@ -168,8 +168,6 @@ pub record Rising (case : Case) (marks : Marks) (tree : Tree) (source : ℕ) : T
 
 -- marks and tree after they rose until a source was tight
 pub record Tightened (case : Case) (load : Load) (source : ℕ) (tree : Tree) (marks' : Marks) (tree' : Tree) : Type 0 where
-  pub marked : Marked case marks'
-  pub tied : Tied case marks' load
   pub grown : Grown case marks' load tree'
   pub inside : source < case.sources
   pub slack : at tree'.slack source ≡ 0
@@ -180,8 +178,6 @@ pub record Tightened (case : Case) (load : Load) (source : ℕ) (tree : Tree) (m
 
 -- the source at which a tree ends
 pub record Found (case : Case) (marks : Marks) (load : Load) (root : ℕ) (tree : Tree) (source : ℕ) : Type 0 where
-  pub marked : Marked case marks
-  pub tied : Tied case marks load
   pub grown : Grown case marks load tree
   pub rooted : tree.root ≡ root
   pub inside : source < case.sources
@@ -190,6 +186,7 @@ pub record Found (case : Case) (marks : Marks) (load : Load) (root : ℕ) (tree 
 
 -- what a reached sink's way back to the root stands on
 pub record Way (case : Case) (flow : List ℕ) (tree : Tree) : Type 0 where
+  pub few : case.sources + case.sinks ≤ 64
   pub inside : (i : ℕ) → i < case.sources → at tree.toward i < case.sinks
   pub met : (i : ℕ) → i < case.sources → 0 < round_at tree.reached (at tree.toward i)
   pub back : (j : ℕ) → j < case.sinks → 0 < round_at tree.reached j → (j ≢ tree.root) → Back case flow tree j
@@ -202,17 +199,3 @@ pub record Rerouted (case : Case) (tree : Tree) (start amount : ℕ) (flow flow'
   pub fresh : (i j : ℕ) → i < case.sources → j < case.sinks → 0 < cell flow' i j → (0 < cell flow i j) ⊎ ((at tree.slack i ≡ 0) × (at tree.toward i ≡ j))
   pub fits : amount ≤ room_at tree.reached tree.root
   pub size : length flow' ≡ 4096
-
--- the load after something was sent from a source to the root
-pub record Sent (case : Case) (tree : Tree) (load load' : Load) : Type 0 where
-  pub summed : Summed case load'
-  pub fewer : sum_to (at load'.want) case.sinks < sum_to (at load.want) case.sinks
-  pub fresh : (i j : ℕ) → i < case.sources → j < case.sinks → 0 < cell load'.flow i j → (0 < cell load.flow i j) ⊎ ((at tree.slack i ≡ 0) × (at tree.toward i ≡ j))
-  pub stocks : (i : ℕ) → at load'.stock i ≤ at load.stock i
-
--- marks and load after a phase
-pub record Phased (case : Case) (load : Load) (marks' : Marks) (load' : Load) : Type 0 where
-  pub marked : Marked case marks'
-  pub tied : Tied case marks' load'
-  pub summed : Summed case load'
-  pub fewer : sum_to (at load'.want) case.sinks < sum_to (at load.want) case.sinks

@@ -1,6 +1,8 @@
 // What is settled so far: the marks, and the flow with what is left.
 ghost use Rattle.std.specs.Prelude.{◌≤◌};
-ghost use Rattle.transport.specs.Solver.{Neediest};
+ghost use Rattle.transport.specs.Solver.{Limited, Marked, Tied, Summed, Neediest};
+
+use crate::case::Case;
 
 mod tree;
 
@@ -19,6 +21,18 @@ struct Load {
     flow: [u32; 4096],
     stock: [u32; 64],
     want: [u32; 64],
+}
+
+// A case within the limits with what is settled of it.
+#[derive(Clone, Copy)]
+struct Market<'a> {
+    case: &'a Case,
+    marks: Marks,
+    load: Load,
+    ghost limited: { Limited case.now },
+    ghost marked: { Marked case.now marks },
+    ghost tied: { Tied case.now marks load },
+    ghost summed: { Summed case.now load },
 }
 
 // The sink that wants most, absent where none wants anything: to serve it first keeps the phases few.

@@ -2,10 +2,10 @@
 // to a source that still has something.
 ghost use Rattle.std.specs.Prelude.{◌≡◌, ℕ, ◌+◌, ◌<◌, ◌≤◌};
 ghost use Rattle.transport.specs.Transport.{at, cell, sum_to};
-ghost use Rattle.transport.specs.Solver.{round_at, Limited, Marked, Tied, Grown, Joined, Absorbed, Found, Relaxed, Raised, Lowered, Nearest, Rising, Tightened};
+ghost use Rattle.transport.specs.Solver.{round_at, Grown, Joined, Absorbed, Found, Relaxed, Raised, Lowered, Nearest, Rising, Tightened};
 
 use crate::case::Case;
-use crate::load::{Load, Marks};
+use crate::load::Market;
 
 mod phases;
 
@@ -32,10 +32,11 @@ struct Tree {
 }
 
 // Takes a reached sink into the slacks.
-fn relax(case: &Case, marks: &Marks, slack: &mut [u32; 64], toward: &mut [u32; 64], sink: usize)
-    requires { (Limited case.now) × ((Marked case.now marks.now) × (sink < case.now.sinks)) }
-    ensures { Relaxed case.now marks.now sink slack.old toward.old slack.new toward.new }
+fn relax(market: &Market, slack: &mut [u32; 64], toward: &mut [u32; 64], sink: usize)
+    requires { sink < market.now.case.now.sinks }
+    ensures { Relaxed market.now.case.now market.now.marks sink slack.old toward.old slack.new toward.new }
 {
+    let Market { case, marks, .. } = market;
     let mark = marks.sink[sink];
     for (i, slack) in slack[..case.sources].iter_mut().enumerate() {
         let gap = marks.source[i] + case.cost[64 * i + sink] - mark;
@@ -98,21 +99,21 @@ fn raise_sinks(sink: &mut [u32; 64], reached: &[Option<Reached>; 64], count: usi
 
 impl Tree {
     // The tree of a root alone.
-    fn rooted(case: &Case, marks: &Marks, load: &Load, root: usize) -> Tree
-        requires { (Limited case.now) × ((Marked case.now marks.now) × ((root < case.now.sinks) × (0 < at load.now.want root))) }
-        ensures grown { Grown case.now marks.now load.now result }
+    fn rooted(market: &Market, root: usize) -> Tree
+        requires { (root < market.now.case.now.sinks) × (0 < at market.now.load.want root) }
+        ensures grown { Grown market.now.case.now market.now.marks market.now.load result }
         ensures early { (j : ℕ) → round_at result.reached j ≤ 1 }
-        ensures closed { sum_to (at result.closed) case.now.sources ≡ 0 }
+        ensures closed { sum_to (at result.closed) market.now.case.now.sources ≡ 0 }
         ensures root { result.root ≡ root }
     {
         let mut slack = [u32::MAX; 64];
         let mut toward = [root as u32; 64];
-        relax(case, marks, &mut slack, &mut toward, root);
+        relax(market, &mut slack, &mut toward, root);
         let mut reached = [None; 64];
         reached[root] = Some(Reached {
             round: 0,
             parent: 0,
-            room: load.want[root],
+            room: market.load.want[root],
         });
         Tree {
             root,
@@ -124,76 +125,73 @@ impl Tree {
     }
 
     // Reaches a sink through a source that serves it.
-    fn join(
-        &mut self,
-        case: &Case,
-        marks: &Marks,
-        load: &Load,
-        source: usize,
-        sink: usize,
-        round: u32,
-    )
-        requires known { (Limited case.now) × ((Marked case.now marks.now) × (Grown case.now marks.now load.now self.old)) }
-        requires inside { (source < case.now.sources) × (sink < case.now.sinks) }
-        requires serves { (at self.old.slack source ≡ 0) × (0 < cell load.now.flow source sink) }
+    fn join(&mut self, market: &Market, source: usize, sink: usize, round: u32)
+        requires grown { Grown market.now.case.now market.now.marks market.now.load self.old }
+        requires inside { (source < market.now.case.now.sources) × (sink < market.now.case.now.sinks) }
+        requires serves { (at self.old.slack source ≡ 0) × (0 < cell market.now.load.flow source sink) }
         requires anew { (round_at self.old.reached sink ≡ 0) × (round_at self.old.reached (at self.old.toward source) ≤ round) }
-        ensures { Joined case.now marks.now load.now source sink (round + 1) self.old self.new }
+        ensures { Joined market.now.case.now market.now.marks market.now.load source sink (round + 1) self.old self.new }
     {
         let ahead = self.reached[self.toward[source] as usize].unwrap();
         self.reached[sink] = Some(Reached {
             round,
             parent: source,
-            room: ahead.room.min(load.flow[64 * source + sink]),
+            room: ahead.room.min(market.load.flow[64 * source + sink]),
         });
-        relax(case, marks, &mut self.slack, &mut self.toward, sink);
+        relax(market, &mut self.slack, &mut self.toward, sink);
     }
 
     // Takes in a source that has nothing left, with every sink that it serves.
-    fn absorb(&mut self, case: &Case, marks: &Marks, load: &Load, source: usize, round: u32)
-        requires known { (Limited case.now) × ((Marked case.now marks.now) × (Grown case.now marks.now load.now self.old)) }
-        requires inside { source < case.now.sources }
-        requires still { (at self.old.closed source ≡ 0) × ((at self.old.slack source ≡ 0) × (at load.now.stock source ≡ 0)) }
-        requires early { (j : ℕ) → j < case.now.sinks → round_at self.old.reached j ≤ round }
-        ensures { Absorbed case.now marks.now load.now (round + 1) self.old self.new }
+    fn absorb(&mut self, market: &Market, source: usize, round: u32)
+        requires grown { Grown market.now.case.now market.now.marks market.now.load self.old }
+        requires inside { source < market.now.case.now.sources }
+        requires still { (at self.old.closed source ≡ 0) × ((at self.old.slack source ≡ 0) × (at market.now.load.stock source ≡ 0)) }
+        requires early { (j : ℕ) → j < market.now.case.now.sinks → round_at self.old.reached j ≤ round }
+        ensures { Absorbed market.now.case.now market.now.marks market.now.load (round + 1) self.old self.new }
     {
-        for j in 0..case.sinks {
-            if load.flow[64 * source + j] > 0 && self.reached[j].is_none() {
-                self.join(case, marks, load, source, j, round);
+        for j in 0..market.case.sinks {
+            if market.load.flow[64 * source + j] > 0 && self.reached[j].is_none() {
+                self.join(market, source, j, round);
             }
         }
         self.closed[source] = u32::MAX;
     }
 
     // Raises the marks in the tree until a source is tight with it, and lowers the slack of the sources outside as much.
-    fn raise(&mut self, case: &Case, marks: &mut Marks, load: &Load, source: usize)
-        requires known { (Limited case.now) × ((Marked case.now marks.old) × ((Tied case.now marks.old load.now) × (Grown case.now marks.old load.now self.old))) }
-        requires rises { Rising case.now marks.old self.old source }
-        ensures { Tightened case.now load.now source self.old marks.new self.new }
+    fn raise(&mut self, market: &mut Market, source: usize)
+        requires grown { Grown market.old.case.now market.old.marks market.old.load self.old }
+        requires rises { Rising market.old.case.now market.old.marks self.old source }
+        ensures tightened { Tightened market.old.case.now market.old.load source self.old market.new.marks self.new }
+        ensures case { market.new.case.now ≡ market.old.case.now }
+        ensures load { market.new.load ≡ market.old.load }
     {
         let by = self.slack[source];
         if by == 0 {
             return;
         }
-        raise_sources(&mut marks.source, &self.closed, case.sources, by);
-        lower_slacks(&mut self.slack, &self.closed, case.sources, by);
-        raise_sinks(&mut marks.sink, &self.reached, case.sinks, by);
+        let Case { sources, sinks, .. } = *market.case;
+        raise_sources(&mut market.marks.source, &self.closed, sources, by);
+        lower_slacks(&mut self.slack, &self.closed, sources, by);
+        raise_sinks(&mut market.marks.sink, &self.reached, sinks, by);
     }
 
     // Grows the tree to a source that has something left, and raises the marks so that it is tight.
-    fn grow(&mut self, case: &Case, marks: &mut Marks, load: &Load) -> usize
-        requires known { (Limited case.now) × ((Marked case.now marks.old) × ((Tied case.now marks.old load.now) × (Grown case.now marks.old load.now self.old))) }
-        requires stocked { 0 < sum_to (at load.now.stock) case.now.sources }
-        requires early { (((j : ℕ) → round_at self.old.reached j ≤ 1)) × (sum_to (at self.old.closed) case.now.sources ≡ 0) }
-        ensures { Found case.now marks.new load.now self.old.root self.new result }
+    fn grow(&mut self, market: &mut Market) -> usize
+        requires grown { Grown market.old.case.now market.old.marks market.old.load self.old }
+        requires stocked { 0 < sum_to (at market.old.load.stock) market.old.case.now.sources }
+        requires early { (((j : ℕ) → round_at self.old.reached j ≤ 1)) × (sum_to (at self.old.closed) market.old.case.now.sources ≡ 0) }
+        ensures found { Found market.old.case.now market.new.marks market.old.load self.old.root self.new result }
+        ensures case { market.new.case.now ≡ market.old.case.now }
+        ensures load { market.new.load ≡ market.old.load }
     {
-        for n in 0..case.sources {
-            let source = nearest(&self.slack, &self.closed, case.sources);
-            self.raise(case, marks, load, source);
-            if load.stock[source] > 0 {
+        for n in 0..market.case.sources {
+            let source = nearest(&self.slack, &self.closed, market.case.sources);
+            self.raise(market, source);
+            if market.load.stock[source] > 0 {
                 return source;
             }
             // The root was reached in round 0.
-            self.absorb(case, marks, load, source, n as u32 + 1);
+            self.absorb(market, source, n as u32 + 1);
         }
         // Some source has something left, and such a one is never closed.
         unreachable()

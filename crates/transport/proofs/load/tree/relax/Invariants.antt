@@ -6,7 +6,7 @@ use Rattle.transport.proofs.load.tree.relax.Given as goal
 
 abbrev pub invariant-loop-i : goal.invariant-loop-i
 invariant-loop-i l =
-    ((k : ℕ) → k < l.i → Nearer l.case l.marks l.sink l.initial.slack-items l.initial.toward l.slack-items l.toward k)
+    ((k : ℕ) → k < l.i → Nearer l.market.case.now l.market.marks l.sink l.initial.slack-items l.initial.toward l.slack-items l.toward k)
     × ((k : ℕ) → l.i ≤ k → at l.slack-items k ≡ at l.initial.slack-items k)
     × ((k : ℕ) → l.i ≤ k → at l.toward k ≡ at l.initial.toward k)
     × (length l.toward ≡ 64)

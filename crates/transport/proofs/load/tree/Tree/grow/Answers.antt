@@ -1,14 +1,19 @@
-use Rattle.std.proofs.Common.{◌≡◌, arith}
+use Rattle.std.proofs.Common.{◌≡◌, ◌<◌, arith}
+use Rattle.transport.specs.Transport.{at, sum_to}
 use Rattle.transport.proofs.Growing.{can_rise, some_open}
 use Rattle.transport.proofs.load.tree.Tree.grow.Goals as goal
 
 pub raise-requires-clause-rises : goal.raise-requires-clause-rises
 raise-requires-clause-rises c =
+    let market = c.loop-n.market in
     let inv = c.loop-n.invariant in
-    can_rise c.args.case.now c.loop-n.marks c.args.load.now c.requires.known.0 inv.0 inv.1 c.loop-n.self c.nearest-source.result inv.2 c.requires.stocked c.nearest-source.ensures
+    let stocked : 0 < sum_to (at market.load.stock) market.case.now.sources = rw (inv.5, inv.4) c.requires.stocked in
+    can_rise market.case.now market.marks market.load market.limited market.marked market.tied c.loop-n.self c.nearest-source.result inv.0 stocked c.nearest-source.ensures
 
 pub unreachable-requires : goal.unreachable-requires
 unreachable-requires c =
+    let market = c.loop-n.market in
     let inv = c.loop-n.invariant in
-    let all : c.loop-n.n ≡ c.args.case.now.sources = omega arith in
-    some_open c.args.case.now c.loop-n.marks c.args.load.now c.requires.known.0 inv.0 inv.1 c.loop-n.self inv.2 c.requires.stocked (omega (arith, inv.4))
+    let stocked : 0 < sum_to (at market.load.stock) market.case.now.sources = rw (inv.5, inv.4) c.requires.stocked in
+    let all : c.loop-n.n ≡ market.case.now.sources = rw inv.4 (omega arith) in
+    some_open market.case.now market.marks market.load market.limited market.marked market.tied c.loop-n.self inv.0 stocked (omega (arith, inv.2))

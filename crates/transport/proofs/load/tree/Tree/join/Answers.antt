@@ -9,13 +9,12 @@ use Rattle.transport.proofs.load.tree.Tree.join.Goals as goal
 pub returns : goal.returns
 returns c =
     let tree = c.args.self.now in
-    let known = c.requires.known in
+    let market = c.args.market.now in
     let source = c.args.source in
     let from : ℕ → Reached = λ room. record { round = c.args.round; parent = source; room = room } in
     let ahead : room_at tree.reached (at tree.toward source) ≡ c.unwrap-ahead.result.room = ap room_of c.unwrap-ahead.ensures in
-    let room : c.min.result ≡ min (room_at tree.reached (at tree.toward source)) (cell c.args.load.now.flow source c.args.sink) = omega (arith, c.min.ensures) in
-    joined c.args.case.now c.args.marks.now c.args.load.now known.0 known.1.0 tree.root source c.args.sink c.args.round
-    tree.slack tree.toward tree.closed _ _ tree.reached _ known.1.1
+    let room : c.min.result ≡ min (room_at tree.reached (at tree.toward source)) (cell market.load.flow source c.args.sink) = omega (arith, c.min.ensures) in
+    joined market.case.now market.marks market.load market.limited market.marked tree source c.args.sink c.args.round _ _ _ c.requires.grown
     c.requires.inside.0 c.requires.inside.1 c.requires.serves.0 c.requires.serves.1 c.requires.anew.0 c.requires.anew.1
     (met_set_as tree.reached c.args.sink (from c.min.result) _ (omega arith) (ap from room))
     c.relax.ensures

@@ -7,7 +7,7 @@ use Rattle.transport.proofs.load.tree.Tree.reroute.Goals as goal
 
 pub overflow_add-flow-in-back : goal.overflow_add-flow-in-back
 overflow_add-flow-in-back c =
-    let little = gives_little c.args.case.now c.args.self.now c.args.amount c.args.source c.args.flow.now c.requires.known.0 c.requires.known.1 c.back.source c.back.flow c.back.invariant c.requires.small.0 c.requires.small.1 in
+    let little = gives_little c.args.case.now c.args.self.now c.args.amount c.args.source c.args.flow.now c.requires.way c.back.source c.back.flow c.back.invariant c.requires.small.0 c.requires.small.1 in
     omega arith
 
 pub returns-then-sink-self : goal.returns-then-sink-self
@@ -15,8 +15,8 @@ returns-then-sink-self c =
     let tree = c.args.self.now in
     let source = c.back.source in
     let sink = at tree.toward source in
-    let inside = c.requires.known.1.inside source c.back.invariant.inside in
-    rerouted c.args.case.now tree c.args.amount c.args.source c.args.flow.now c.requires.known.0 c.requires.known.1 source sink refl c.back.flow _ c.back.invariant
+    let inside = c.requires.way.inside source c.back.invariant.inside in
+    rerouted c.args.case.now tree c.args.amount c.args.source c.args.flow.now c.requires.way source sink refl c.back.flow _ c.back.invariant
     (put_set c.back.flow (64 * source + sink) (cell c.back.flow source sink + c.args.amount) (omega (arith, c.back.invariant.size, c.back.invariant.inside))) c.if-sink-self.true
 
 pub back-preserved : goal.back-preserved
@@ -24,7 +24,7 @@ back-preserved c =
     let tree = c.args.self.now in
     let source = c.back.source in
     let sink = at tree.toward source in
-    let way = c.requires.known.1 in
+    let way = c.requires.way in
     let inside = way.inside source c.back.invariant.inside in
     let met = way.met source c.back.invariant.inside in
     let parent = parent_at tree.reached sink in
@@ -34,5 +34,5 @@ back-preserved c =
     let give = put_set flow1 (64 * source + sink) (cell flow1 source sink + c.args.amount) (omega (arith, c.back.invariant.size, c.back.invariant.inside)) in
     let from : parent ≡ c.unwrap-source.result.parent = ap parent_of c.unwrap-source.ensures in
     rw (← from)
-    (rerouting_more c.args.case.now tree c.args.amount c.args.source c.args.flow.now c.requires.known.0 way source sink refl flow1 flow2 c.back.invariant give _ c.if-sink-self.false
+    (rerouting_more c.args.case.now tree c.args.amount c.args.source c.args.flow.now way source sink refl flow1 flow2 c.back.invariant give _ c.if-sink-self.false
     (put_set flow2 (64 * parent + sink) (cell flow2 parent sink - c.args.amount) (omega (arith, give.size, c.back.invariant.size))))

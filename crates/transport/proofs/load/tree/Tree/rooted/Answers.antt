@@ -11,15 +11,16 @@ use Rattle.transport.proofs.load.tree.Tree.rooted.Goals as goal
 
 pub returns : goal.returns
 returns c =
+    let market = c.args.market.now in
     let root = c.args.root in
-    let r : Reached = record { round = 0; parent = 0; room = at c.args.load.now.want root } in
+    let r : Reached = record { round = 0; parent = 0; room = at c.args.market.now.load.want root } in
     let inside : root < 64 = omega arith in
     let met = met_set (replicate 64 None) root r inside in
     record {
       grown =
-          rooted c.args.case.now c.args.marks.now c.args.load.now c.requires.0 c.requires.1.0 root (replicate 64 4294967295) (replicate 64 root) (replicate 64 0) _ _ (set (replicate 64 None) root (Some r))
-          c.requires.1.1.0 c.requires.1.1.1 (λ i l. get_or-replicate 64 i 4294967295 0 (omega arith)) (at_zeros 64) refl met c.relax.ensures;
+          rooted market.case.now market.marks market.load market.limited market.marked root (replicate 64 4294967295) (replicate 64 root) (replicate 64 0) _ _ (set (replicate 64 None) root (Some r))
+          c.requires.0 c.requires.1 (λ i l. get_or-replicate 64 i 4294967295 0 (omega arith)) (at_zeros 64) refl met c.relax.ensures;
       early = λ j. ⊎_elim (λ (e : j ≡ root). rw e (omega (arith, ap round_of met.here))) (λ (ne : j ≡ root → ⊥). omega (arith, ap round_of (met.rest j ne), ap round_of (met_none 64 j))) (cases_eq j root);
-      closed = sum_nothing (at (replicate 64 0)) c.args.case.now.sources (λ k l. at_zeros 64 k);
+      closed = sum_nothing (at (replicate 64 0)) market.case.now.sources (λ k l. at_zeros 64 k);
       root = refl;
     }
