@@ -7,7 +7,7 @@ use Rattle.transport.specs.Transport.{at, cell, cost_of, each, amounts_fit, cost
 use Rattle.transport.specs.Solver.{Limited, Marked, Tied, Summed}
 use Rattle.transport.proofs.Sums.{sum_nothing, sum_at}
 use Rattle.transport.proofs.Every.{each_at}
-use Rattle.transport.proofs.Writes.{at_zeros}
+use Rattle.transport.proofs.Writes.{blank}
 
 -- each limit as a fact
 pub limits : (case : Case) → within case ≡ true → Limited case
@@ -27,22 +27,22 @@ limits case e =
 pub marked_none : (case : Case) → Marked case (record { source = replicate 64 0; sink = replicate 64 0 })
 marked_none case =
     record {
-      fair = λ i j li lj. omega (arith, at_zeros 64 j);
-      source_marks = λ i l. omega (arith, at_zeros 64 i);
-      sink_marks = λ j l. omega (arith, at_zeros 64 j);
+      fair = λ i j li lj. omega (arith, blank {A = ℕ} 0 64 j);
+      source_marks = λ i l. omega (arith, blank {A = ℕ} 0 64 i);
+      sink_marks = λ j l. omega (arith, blank {A = ℕ} 0 64 j);
       sources = refl;
       sinks = refl;
     }
 
 pub tied_none : (case : Case) (stock want : List ℕ) → Tied case (record { source = replicate 64 0; sink = replicate 64 0 }) (record { flow = replicate 4096 0; stock = stock; want = want })
 tied_none case stock want =
-    record { tight = λ i j li lj f. absurd (let z : ⊥ = omega (arith, at_zeros 4096 (64 * i + j)) in z); unraised = λ i l f. at_zeros 64 i }
+    record { tight = λ i j li lj f. absurd (let z : ⊥ = omega (arith, blank {A = ℕ} 0 4096 (64 * i + j)) in z); unraised = λ i l f. blank {A = ℕ} 0 64 i }
 
 pub summed_none : (case : Case) → Limited case → length case.supply ≡ 64 → length case.demand ≡ 64 → Summed case (record { flow = replicate 4096 0; stock = case.supply; want = case.demand })
 summed_none case limited supplies demands =
     record {
-      sent = λ i l. omega (arith, sum_nothing (λ j. cell (replicate 4096 0) i j) case.sinks (λ j lj. at_zeros 4096 (64 * i + j)));
-      received = λ j l. omega (arith, sum_nothing (λ i. cell (replicate 4096 0) i j) case.sources (λ i li. at_zeros 4096 (64 * i + j)));
+      sent = λ i l. omega (arith, sum_nothing (λ j. cell (replicate 4096 0) i j) case.sinks (λ j lj. blank {A = ℕ} 0 4096 (64 * i + j)));
+      received = λ j l. omega (arith, sum_nothing (λ i. cell (replicate 4096 0) i j) case.sources (λ i li. blank {A = ℕ} 0 4096 (64 * i + j)));
       even = limited.even;
       flows = length-replicate {A = ℕ} 4096 0;
       stocks = supplies;

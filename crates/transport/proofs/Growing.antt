@@ -1,7 +1,7 @@
 -- How a tree grows: from its root, by sinks that join, by raised marks and by closed sources.
-use Rattle.std.proofs.Common.{◌≡◌, ℕ, ◌+◌, ◌*◌, ◌<◌, ◌≤◌, min, max, ◌⊎◌, Option, None, List, length, replicate, refl, ap, ◌∙◌, subst, inl, inr, ⊎_elim, arith, below_more}
+use Rattle.std.proofs.Common.{◌≡◌, ℕ, ◌+◌, ◌*◌, ◌<◌, ◌≤◌, min, max, ◌⊎◌, Option, Some, None, List, length, replicate, refl, ap, ◌∙◌, subst, inl, inr, ⊎_elim, arith, below_more}
 use Rattle.std.proofs.lemmas.Bool.{cases_eq}
-use Rattle.transport.proofs.Writes.{met_none}
+use Rattle.transport.proofs.Writes.{blank}
 use Rattle.transport.proofs.Sums.{sum_change, sum_some, sum_open}
 use Rattle.transport.specs.declared.case.Case.{Case}
 use Rattle.transport.specs.declared.load.Marks.{Marks}
@@ -9,7 +9,7 @@ use Rattle.transport.specs.declared.load.Load.{Load}
 use Rattle.transport.specs.declared.load.tree.Reached.{Reached}
 use Rattle.transport.specs.declared.load.tree.Tree.{Tree}
 use Rattle.transport.specs.Transport.{at, cell, cost_of, sum_to}
-use Rattle.transport.specs.Solver.{round_of, parent_of, room_of, round_at, parent_at, room_at, Met, Limited, Marked, Tied, Back, Grown, Joined, Absorbed, Relaxed, Nearer, Put, Raised, Lowered, Nearest, Rising, Tightened}
+use Rattle.transport.specs.Solver.{round_of, parent_of, room_of, round_at, parent_at, room_at, Limited, Marked, Tied, Back, Grown, Joined, Absorbed, Relaxed, Nearer, Put, Raised, Lowered, Nearest, Rising, Tightened}
 
 -- a source without slack is left as it was
 pub relaxed_none : (case : Case) (marks : Marks) (sink : ℕ) (slack toward slack' toward' : List ℕ) (i : ℕ) → Nearer case marks sink slack toward slack' toward' i → at slack i ≡ 0 → (at slack' i ≡ 0) × (at toward' i ≡ at toward i)
@@ -29,7 +29,7 @@ module _ (case : Case) (marks : Marks) (load : Load) (limited : Limited case) (m
       → root < case.sinks → 0 < at load.want root
       → ((i : ℕ) → i < case.sources → at slack i ≡ 4294967295)
       → ((i : ℕ) → at closed i ≡ 0) → length closed ≡ 64
-      → Met (replicate 64 None) reached root (record { round = 0; parent = 0; room = at load.want root })
+      → Put None (replicate 64 None) reached root (Some (record { round = 0; parent = 0; room = at load.want root }))
       → Relaxed case marks root slack toward slack' toward'
       → Grown case marks load (record { root = root; slack = slack'; toward = toward'; closed = closed; reached = reached })
   rooted root slack toward closed slack' toward' reached lr wants far still closeds met relaxed =
@@ -67,7 +67,7 @@ module _ (case : Case) (marks : Marks) (load : Load) (limited : Limited case) (m
       room_is = ap room_of met.here
 
       others : (j : ℕ) → (j ≡ root → ⊥) → round_at reached j ≡ 0
-      others j ne = ap round_of (met.rest j ne ∙ met_none 64 j)
+      others j ne = ap round_of (met.rest j ne ∙ blank None 64 j)
 
       only : (j : ℕ) → 0 < round_at reached j → j ≡ root
       only j m = ⊎_elim (λ (e : j ≡ root). e) (λ (ne : j ≡ root → ⊥). absurd (let z : ⊥ = omega (arith, others j ne) in z)) (cases_eq j root)
@@ -77,7 +77,7 @@ module _ (case : Case) (marks : Marks) (load : Load) (limited : Limited case) (m
       → Grown case marks load tree
       → source < case.sources → sink < case.sinks → at tree.slack source ≡ 0 → 0 < cell load.flow source sink
       → round_at tree.reached sink ≡ 0 → round_at tree.reached (at tree.toward source) ≤ n
-      → Met tree.reached reached' sink (record { round = n; parent = source; room = min (room_at tree.reached (at tree.toward source)) (cell load.flow source sink) })
+      → Put None tree.reached reached' sink (Some (record { round = n; parent = source; room = min (room_at tree.reached (at tree.toward source)) (cell load.flow source sink) }))
       → Relaxed case marks sink tree.slack tree.toward slack' toward'
       → Joined case marks load source sink (n + 1) tree (record tree { slack = slack'; toward = toward'; reached = reached' })
   joined tree source sink n slack' toward' reached' g si sj none serves anew below met relaxed =
@@ -200,7 +200,7 @@ module _ (case : Case) (marks : Marks) (load : Load) (source round : ℕ) (tree 
       (tree' : Tree) (closed'' : List ℕ)
       → Absorbing case marks load source round case.sinks tree tree'
       → source < case.sources → at tree.closed source ≡ 0 → at load.stock source ≡ 0
-      → Put tree'.closed closed'' source 4294967295
+      → Put 0 tree'.closed closed'' source 4294967295
       → Absorbed case marks load round tree (record tree' { closed = closed'' })
   absorbed tree' closed'' a ls still empty put =
       record { grown = grown; early = a.early; closed = total; root = a.root }

@@ -22,7 +22,7 @@ pub part_most : (k i a : ℕ) → part k i a ≤ a
 part_most k i a = ⊎_elim (λ (e : k ≡ i). omega (arith, part_same k i a e)) (λ (ne : k ≡ i → ⊥). omega (arith, part_other k i a ne)) (cases_eq k i)
 
 -- one cell of a table is written, with a more and b less than it was
-module _ (flow flow' : List ℕ) (i j x a b : ℕ) (few : j < 64) (put : Put flow flow' (64 * i + j) x) (moved : x + b ≡ cell flow i j + a) where
+module _ (flow flow' : List ℕ) (i j x a b : ℕ) (few : j < 64) (put : Put 0 flow flow' (64 * i + j) x) (moved : x + b ≡ cell flow i j + a) where
   pub row_moves : (n : ℕ) → j < n → n ≤ 64 → (k : ℕ) → sum_to (λ m. cell flow' k m) n + part k i b ≡ sum_to (λ m. cell flow k m) n + part k i a
   row_moves n lj ln k =
       ⊎_elim
@@ -59,7 +59,7 @@ pub record Rerouting (case : Case) (tree : Tree) (amount start : ℕ) (flow : Li
   pub size : length flow' ≡ 4096
 
 module _ (case : Case) (tree : Tree) (amount start : ℕ) (flow : List ℕ) (way : Way case flow tree) where
-  module _ (source sink : ℕ) (ahead : at tree.toward source ≡ sink) (flow1 flow2 : List ℕ) (r : Rerouting case tree amount start flow source flow1) (give : Put flow1 flow2 (64 * source + sink) (cell flow1 source sink + amount)) where
+  module _ (source sink : ℕ) (ahead : at tree.toward source ≡ sink) (flow1 flow2 : List ℕ) (r : Rerouting case tree amount start flow source flow1) (give : Put 0 flow1 flow2 (64 * source + sink) (cell flow1 source sink + amount)) where
     sink_inside : sink < case.sinks
     sink_inside = omega (arith, way.inside source r.inside)
 
@@ -106,7 +106,7 @@ module _ (case : Case) (tree : Tree) (amount start : ℕ) (flow : List ℕ) (way
         let level : round_at tree.reached sink ≤ round_at tree.reached (at tree.toward source) = rw ahead (omega arith) in
         omega (arith, r.served sink sink_inside sink_met ne level, given_more (64 * parent_at tree.reached sink + sink))
 
-    pub rerouting_more : (flow3 : List ℕ) → (sink ≡ tree.root → ⊥) → Put flow2 flow3 (64 * parent_at tree.reached sink + sink) (cell flow2 (parent_at tree.reached sink) sink - amount) → Rerouting case tree amount start flow (parent_at tree.reached sink) flow3
+    pub rerouting_more : (flow3 : List ℕ) → (sink ≡ tree.root → ⊥) → Put 0 flow2 flow3 (64 * parent_at tree.reached sink + sink) (cell flow2 (parent_at tree.reached sink) sink - amount) → Rerouting case tree amount start flow (parent_at tree.reached sink) flow3
     rerouting_more flow3 ne take =
         record { inside = b.inside; slack = b.slack; fits = omega (arith, b.room, room); rows = rows; columns = columns; fresh = fresh; served = served; size = take.size ∙ give.size ∙ r.size }
       where
@@ -151,7 +151,7 @@ module _ (case : Case) (tree : Tree) (amount start : ℕ) (flow : List ℕ) (way
       omega (arith, sum_at (λ j. cell flow1 source j) case.sinks (at tree.toward source) (way.inside source r.inside), r.rows source r.inside, rows source r.inside, part_most source start amount)
 
 -- a number of a row falls
-put_falls : (xs xs' : List ℕ) (i a : ℕ) → Put xs xs' i (at xs i - a) → a ≤ at xs i → (k : ℕ) → at xs' k + part k i a ≡ at xs k
+put_falls : (xs xs' : List ℕ) (i a : ℕ) → Put 0 xs xs' i (at xs i - a) → a ≤ at xs i → (k : ℕ) → at xs' k + part k i a ≡ at xs k
 put_falls xs xs' i a put l k =
     ⊎_elim
     (λ (e : k ≡ i). rw e (omega (arith, put.here, part_same i i a refl)))
@@ -159,7 +159,7 @@ put_falls xs xs' i a put l k =
     (cases_eq k i)
 
 -- so does its sum
-sum_falls : (xs xs' : List ℕ) (i a n : ℕ) → Put xs xs' i (at xs i - a) → a ≤ at xs i → i < n → sum_to (at xs') n + a ≡ sum_to (at xs) n
+sum_falls : (xs xs' : List ℕ) (i a n : ℕ) → Put 0 xs xs' i (at xs i - a) → a ≤ at xs i → i < n → sum_to (at xs') n + a ≡ sum_to (at xs) n
 sum_falls xs xs' i a n put l li = omega (arith, sum_change (at xs) (at xs') n i li (λ k lk ne. put.rest k ne), put.here)
 
 pub way_of : (case : Case) (marks : Marks) (load : Load) (tree : Tree) → Limited case → Grown case marks load tree → Way case load.flow tree
@@ -170,8 +170,8 @@ module _
     (case : Case) (marks : Marks) (load : Load) (tree : Tree) (source amount : ℕ) (flow' stock' want' : List ℕ)
     (g : Grown case marks load tree) (inside : source < case.sources) (fits : amount ≤ at load.stock source)
     (moved : Rerouted case tree source amount load.flow flow')
-    (stock : Put load.stock stock' source (at load.stock source - amount))
-    (want : Put load.want want' tree.root (at load.want tree.root - amount)) where
+    (stock : Put 0 load.stock stock' source (at load.stock source - amount))
+    (want : Put 0 load.want want' tree.root (at load.want tree.root - amount)) where
   wanted : amount ≤ at load.want tree.root
   wanted = omega (arith, moved.fits, g.root_room)
 

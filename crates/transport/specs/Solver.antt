@@ -99,17 +99,11 @@ pub record Lowered (closed : ℕ → ℕ) (count by : ℕ) (slack slack' : List 
   pub still : (k : ℕ) → k < count → 0 < closed k → at slack' k ≡ at slack k
   pub size : length slack' ≡ 64
 
--- one number of a row was written
-pub record Put (old new : List ℕ) (k x : ℕ) : Type 0 where
+-- one item of a row was written; past the row stands d
+pub record Put {A : Type 0} (d : A) (old new : List A) (k : ℕ) (x : A) : Type 0 where
   pub size : length new ≡ length old
-  pub here : at new k ≡ x
-  pub rest : (i : ℕ) → (i ≢ k) → at new i ≡ at old i
-
--- one sink was reached
-pub record Met (old new : List (Option Reached)) (k : ℕ) (r : Reached) : Type 0 where
-  pub size : length new ≡ length old
-  pub here : reached_at new k ≡ Some r
-  pub rest : (j : ℕ) → (j ≢ k) → reached_at new j ≡ reached_at old j
+  pub here : slice_index_or new k d ≡ x
+  pub rest : (i : ℕ) → (i ≢ k) → slice_index_or new i d ≡ slice_index_or old i d
 
 -- the way back from a reached sink: through its parent, toward the sink that this is tight with
 pub record Back (case : Case) (flow : List ℕ) (tree : Tree) (j : ℕ) : Type 0 where

@@ -28,8 +28,8 @@ invariant_of-self c =
     let amount = c.min-amount.result in
     let g = c.requires.grown in
     let fits : amount ≤ at load.stock source = omega (arith, c.min-amount.ensures) in
-    let stock = put_set load.stock source (at load.stock source - amount) (omega (arith, market.limited.few, market.summed.stocks)) in
-    let want = put_set load.want tree.root (at load.want tree.root - amount) (omega (arith, market.limited.few, market.summed.wants)) in
+    let stock = put_set 0 load.stock source (at load.stock source - amount) (omega (arith, market.limited.few, market.summed.stocks)) in
+    let want = put_set 0 load.want tree.root (at load.want tree.root - amount) (omega (arith, market.limited.few, market.summed.wants)) in
     record {
       limited = market.limited;
       marked = market.marked;
@@ -48,4 +48,4 @@ returns-clause-fewer c =
     let fits : amount ≤ at load.stock source = omega (arith, c.min-amount.ensures) in
     let ahead : room_at tree.reached (at tree.toward source) ≡ c.unwrap-ahead.result.room = ap room_of c.unwrap-ahead.ensures in
     let some : 0 < amount = omega (arith, c.min-amount.ensures, c.requires.inside.1.1, g.roomy (at tree.toward source) (g.inside source c.requires.inside.0) (g.met source c.requires.inside.0)) in
-    fewer_wants market.case.now market.marks load tree source amount _ _ _ g c.requires.inside.0 fits c.reroute.ensures (put_set load.stock source (at load.stock source - amount) (omega (arith, market.limited.few, market.summed.stocks))) (put_set load.want tree.root (at load.want tree.root - amount) (omega (arith, market.limited.few, market.summed.wants))) some
+    fewer_wants market.case.now market.marks load tree source amount _ _ _ g c.requires.inside.0 fits c.reroute.ensures (put_set 0 load.stock source (at load.stock source - amount) (omega (arith, market.limited.few, market.summed.stocks))) (put_set 0 load.want tree.root (at load.want tree.root - amount) (omega (arith, market.limited.few, market.summed.wants))) some

@@ -23,4 +23,4 @@ returns c =
     let all : c.loop-j.j ≡ case.sinks = omega arith in
     let P : ℕ → Type 0 = λ n. Absorbing case c.args.market.now.marks c.args.market.now.load c.args.source (c.args.round + 1) n c.args.self.now c.loop-j.self in
     absorbed case c.args.market.now.marks c.args.market.now.load c.args.source (c.args.round + 1) c.args.self.now c.loop-j.self _
-    (subst P all c.loop-j.invariant) c.requires.inside c.requires.still.0 c.requires.still.1.1 (put_set c.loop-j.self.closed c.args.source 4294967295 (omega arith))
+    (subst P all c.loop-j.invariant) c.requires.inside c.requires.still.0 c.requires.still.1.1 (put_set 0 c.loop-j.self.closed c.args.source 4294967295 (omega arith))

@@ -17,7 +17,7 @@ returns-then-sink-self c =
     let sink = at tree.toward source in
     let inside = c.requires.way.inside source c.back.invariant.inside in
     rerouted c.args.case.now tree c.args.amount c.args.source c.args.flow.now c.requires.way source sink refl c.back.flow _ c.back.invariant
-    (put_set c.back.flow (64 * source + sink) (cell c.back.flow source sink + c.args.amount) (omega (arith, c.back.invariant.size, c.back.invariant.inside))) c.if-sink-self.true
+    (put_set 0 c.back.flow (64 * source + sink) (cell c.back.flow source sink + c.args.amount) (omega (arith, c.back.invariant.size, c.back.invariant.inside))) c.if-sink-self.true
 
 pub back-preserved : goal.back-preserved
 back-preserved c =
@@ -31,8 +31,8 @@ back-preserved c =
     let kept = (way.back sink inside met c.if-sink-self.false).inside in
     let flow1 = c.back.flow in
     let flow2 = set flow1 (64 * source + sink) (cell flow1 source sink + c.args.amount) in
-    let give = put_set flow1 (64 * source + sink) (cell flow1 source sink + c.args.amount) (omega (arith, c.back.invariant.size, c.back.invariant.inside)) in
+    let give = put_set 0 flow1 (64 * source + sink) (cell flow1 source sink + c.args.amount) (omega (arith, c.back.invariant.size, c.back.invariant.inside)) in
     let from : parent ≡ c.unwrap-source.result.parent = ap parent_of c.unwrap-source.ensures in
     rw (← from)
     (rerouting_more c.args.case.now tree c.args.amount c.args.source c.args.flow.now way source sink refl flow1 flow2 c.back.invariant give _ c.if-sink-self.false
-    (put_set flow2 (64 * parent + sink) (cell flow2 parent sink - c.args.amount) (omega (arith, give.size, c.back.invariant.size))))
+    (put_set 0 flow2 (64 * parent + sink) (cell flow2 parent sink - c.args.amount) (omega (arith, give.size, c.back.invariant.size))))

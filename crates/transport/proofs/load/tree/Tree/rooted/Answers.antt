@@ -5,7 +5,7 @@ use Rattle.transport.specs.declared.load.tree.Reached.{Reached}
 use Rattle.transport.specs.Solver.{round_of}
 use Rattle.transport.specs.Transport.{at}
 use Rattle.transport.proofs.Sums.{sum_nothing}
-use Rattle.transport.proofs.Writes.{met_set, met_none, at_zeros}
+use Rattle.transport.proofs.Writes.{put_set, blank}
 use Rattle.transport.proofs.Growing.{rooted}
 use Rattle.transport.proofs.load.tree.Tree.rooted.Goals as goal
 
@@ -15,12 +15,12 @@ returns c =
     let root = c.args.root in
     let r : Reached = record { round = 0; parent = 0; room = at c.args.market.now.load.want root } in
     let inside : root < 64 = omega arith in
-    let met = met_set (replicate 64 None) root r inside in
+    let met = put_set None (replicate 64 None) root (Some r) inside in
     record {
       grown =
           rooted market.case.now market.marks market.load market.limited market.marked root (replicate 64 4294967295) (replicate 64 root) (replicate 64 0) _ _ (set (replicate 64 None) root (Some r))
-          c.requires.0 c.requires.1 (λ i l. get_or-replicate 64 i 4294967295 0 (omega arith)) (at_zeros 64) refl met c.relax.ensures;
-      early = λ j. ⊎_elim (λ (e : j ≡ root). rw e (omega (arith, ap round_of met.here))) (λ (ne : j ≡ root → ⊥). omega (arith, ap round_of (met.rest j ne), ap round_of (met_none 64 j))) (cases_eq j root);
-      closed = sum_nothing (at (replicate 64 0)) market.case.now.sources (λ k l. at_zeros 64 k);
+          c.requires.0 c.requires.1 (λ i l. get_or-replicate 64 i 4294967295 0 (omega arith)) (blank 0 64) refl met c.relax.ensures;
+      early = λ j. ⊎_elim (λ (e : j ≡ root). rw e (omega (arith, ap round_of met.here))) (λ (ne : j ≡ root → ⊥). omega (arith, ap round_of (met.rest j ne), ap round_of (blank None 64 j))) (cases_eq j root);
+      closed = sum_nothing (at (replicate 64 0)) market.case.now.sources (λ k l. blank 0 64 k);
       root = refl;
     }
