@@ -25,14 +25,15 @@ struct Tree {
     root: usize,
     // Of each source: how far it is from being tight with a reached sink, and with which one it is least far.
     slack: [u32; 64],
-    toward: [u32; 64],
-    // u32::MAX for a reached source, so that no slack passes it, and 0 for the others.
+    toward: [usize; 64],
+    // u32::MAX for a source that was taken in, so that no slack passes it, and 0 for the others: as bools they cost a
+    // plan 1.1 to 1.2 times its time, and one array of structs in place of the three 2.3 times.
     closed: [u32; 64],
     reached: [Option<Reached>; 64],
 }
 
 // Takes a reached sink into the slacks.
-fn relax(market: &Market, slack: &mut [u32; 64], toward: &mut [u32; 64], sink: usize)
+fn relax(market: &Market, slack: &mut [u32; 64], toward: &mut [usize; 64], sink: usize)
     requires { sink < market.now.case.now.sinks }
     ensures { Relaxed market.now.case.now market.now.marks sink slack.old toward.old slack.new toward.new }
 {
@@ -43,7 +44,7 @@ fn relax(market: &Market, slack: &mut [u32; 64], toward: &mut [u32; 64], sink: u
         let was = *slack;
         let there = toward[i];
         *slack = if gap < was { gap } else { was };
-        toward[i] = if gap < was { sink as u32 } else { there };
+        toward[i] = if gap < was { sink } else { there };
     }
 }
 
@@ -107,7 +108,7 @@ impl Tree {
         ensures root { result.root ≡ root }
     {
         let mut slack = [u32::MAX; 64];
-        let mut toward = [root as u32; 64];
+        let mut toward = [root; 64];
         relax(market, &mut slack, &mut toward, root);
         let mut reached = [None; 64];
         reached[root] = Some(Reached {
@@ -132,7 +133,7 @@ impl Tree {
         requires anew { (round_at self.old.reached sink ≡ 0) × (round_at self.old.reached (at self.old.toward source) ≤ round) }
         ensures { Joined market.now.case.now market.now.marks market.now.load source sink (round + 1) self.old self.new }
     {
-        let ahead = self.reached[self.toward[source] as usize].unwrap();
+        let ahead = self.reached[self.toward[source]].unwrap();
         self.reached[sink] = Some(Reached {
             round,
             parent: source,
@@ -149,8 +150,9 @@ impl Tree {
         requires early { (j : ℕ) → j < market.now.case.now.sinks → round_at self.old.reached j ≤ round }
         ensures { Absorbed market.now.case.now market.now.marks market.now.load (round + 1) self.old self.new }
     {
-        for j in 0..market.case.sinks {
-            if market.load.flow[64 * source + j] > 0 && self.reached[j].is_none() {
+        let served = &market.load.flow[64 * source..64 * source + market.case.sinks];
+        for (j, &flow) in served.iter().enumerate() {
+            if flow > 0 && self.reached[j].is_none() {
                 self.join(market, source, j, round);
             }
         }

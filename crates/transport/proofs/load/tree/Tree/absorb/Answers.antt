@@ -1,9 +1,10 @@
 use Rattle.std.proofs.Common.{◌≡◌, ℕ, ◌+◌, sym, subst, arith, rules}
+use Rattle.std.proofs.lemmas.Grind.{common_steps}
 use Rattle.transport.specs.declared.load.tree.Tree.{Tree}
 use Rattle.transport.proofs.Growing.{Absorbing, absorbing_pass, absorbing_join, absorbed}
 use Rattle.transport.proofs.Writes.{put_set, round_none, round_some}
 use Rattle.transport.proofs.load.tree.Tree.absorb.Goals as goal
-use Rattle.transport.proofs.load.tree.Tree.absorb.Goals.{then-market-source-gt0+then-is_none, else-market-source-gt0, else-market-source-gt0-via-then-market-source-gt0+else-is_none, else-market-source-gt0-via-else-market-source-gt0}
+use Rattle.transport.proofs.load.tree.Tree.absorb.Goals.{then-flow-gt0+then-is_none, else-flow-gt0, else-flow-gt0-via-then-flow-gt0+else-is_none, else-flow-gt0-via-else-flow-gt0}
 
 pub loop-j-preserved : goal.loop-j-preserved
 loop-j-preserved c =
@@ -12,9 +13,9 @@ loop-j-preserved c =
     let load = c.args.market.now.load in
     let j = c.loop-j.j in
     let P : Tree → Type 0 = λ tree. Absorbing case marks load c.args.source (c.args.round + 1) (j + 1) c.args.self.now tree in
-    elim c.if-market-source-gt0.branch [
-      | then-market-source-gt0+then-is_none w ↦ subst P (sym w.self-is) (absorbing_join case marks load c.args.source (c.args.round + 1) c.args.self.now j c.loop-j.self _ c.requires.inside (omega arith) (round_none _ (search rules)) c.loop-j.invariant w.join.ensures)
-      | else-market-source-gt0 w ↦ subst P (sym w.self-is) (absorbing_pass case marks load c.args.source (c.args.round + 1) c.args.self.now j c.loop-j.self c.loop-j.invariant (λ serves. elim w.else-market-source-gt0.branch [ else-market-source-gt0-via-then-market-source-gt0+else-is_none v ↦ round_some _ (search rules) | else-market-source-gt0-via-else-market-source-gt0 v ↦ absurd (let z : ⊥ = omega (arith, v.if-market-source-gt0.false) in z) ]))
+    elim c.if-flow-gt0.branch [
+      | then-flow-gt0+then-is_none w ↦ subst P (sym w.self-is) (absorbing_join case marks load c.args.source (c.args.round + 1) c.args.self.now j c.loop-j.self _ c.requires.inside (omega arith) (round_none _ (search rules)) c.loop-j.invariant w.join.ensures)
+      | else-flow-gt0 w ↦ subst P (sym w.self-is) (absorbing_pass case marks load c.args.source (c.args.round + 1) c.args.self.now j c.loop-j.self c.loop-j.invariant (λ serves. elim w.else-flow-gt0.branch [ else-flow-gt0-via-then-flow-gt0+else-is_none v ↦ round_some _ (search rules) | else-flow-gt0-via-else-flow-gt0 v ↦ absurd (let z : ⊥ = grind (arith, common_steps) in z) ]))
     ]
 
 pub returns : goal.returns
