@@ -280,11 +280,6 @@ module _ (case : Case) (marks : Marks) (load : Load) (limited : Limited case) (m
       let still = spare_still tree g spare.0 spare.1 spare.2 in
       omega (arith, sum_open (at tree.closed) case.sources spare.0 spare.1 still (λ k l. elim (g.flag k l) [ inl e ↦ omega (arith, e) | inr e ↦ omega (arith, e) ]))
 
-  -- a source that is tight as it stands
-  pub tightened_already : (tree : Tree) (source : ℕ) → Grown case marks load tree → Rising case marks tree source → at tree.slack source ≡ 0 → Tightened case load source tree marks tree
-  tightened_already tree source g rise none =
-      record { grown = g; inside = rise.inside; slack = none; still = rise.still; closed = refl; reached = refl; root = refl }
-
   -- marks and slacks after the marks in the tree rose by the slack of a source
   module _
       (tree : Tree) (source : ℕ) (source' slack' sink' : List ℕ)

@@ -1,10 +1,5 @@
-use Rattle.transport.proofs.Growing.{raised, raised_marked, raised_tied, tightened_already}
+use Rattle.transport.proofs.Growing.{raised, raised_marked, raised_tied}
 use Rattle.transport.proofs.load.tree.Tree.raise.Goals as goal
-
-pub returns-then-by-eq0-clause-tightened : goal.returns-then-by-eq0-clause-tightened
-returns-then-by-eq0-clause-tightened c =
-    let market = c.args.market.now in
-    tightened_already market.case.now market.marks market.load market.limited market.marked market.tied c.args.self.now c.args.source c.requires.grown c.requires.rises c.if-by-eq0.true
 
 pub invariant_of-market : goal.invariant_of-market
 invariant_of-market c =
