@@ -1,6 +1,7 @@
 -- How an amount goes along a tree from a source to the root.
-use Rattle.std.proofs.Common.{◌≡◌, ℕ, ◌+◌, ◌-◌, ◌*◌, ◌<◌, ◌≤◌, eqb, ◌⊎◌, List, length, refl, ap, ◌∙◌, subst, inl, inr, ⊎_elim, arith}
-use Rattle.std.proofs.lemmas.Bool.{cases_eq, eq-eqb, ne_eqb, cond-true, cond-false}
+use Rattle.std.proofs.Common.{◌≡◌, ℕ, ◌+◌, ◌-◌, ◌*◌, ◌<◌, ◌≤◌, ◌⊎◌, List, length, refl, ap, ◌∙◌, subst, inl, inr, ⊎_elim, arith}
+use Rattle.std.proofs.lemmas.Bool.{cases_eq}
+use Rattle.std.proofs.lemmas.Bool.Decides.{nat_tests}
 use Rattle.transport.specs.declared.case.Case.{Case}
 use Rattle.transport.specs.declared.load.Marks.{Marks}
 use Rattle.transport.specs.declared.load.Load.{Load}
@@ -10,16 +11,16 @@ use Rattle.transport.specs.Solver.{round_at, parent_at, room_at, Limited, Tied, 
 use Rattle.transport.proofs.Sums.{sum_change, sum_same, sum_at}
 
 pub part_same : (k i a : ℕ) → k ≡ i → part k i a ≡ a
-part_same k i a e = cond-true (eqb k i) a 0 (eq-eqb k i e)
+part_same k i a e = grind (arith, nat_tests)
 
 pub part_other : (k i a : ℕ) → (k ≡ i → ⊥) → part k i a ≡ 0
-part_other k i a ne = cond-false (eqb k i) a 0 (ne_eqb k i ne)
+part_other k i a ne = grind (arith, nat_tests)
 
 pub part_none : (k i : ℕ) → part k i 0 ≡ 0
-part_none k i = ⊎_elim (λ (e : k ≡ i). part_same k i 0 e) (λ (ne : k ≡ i → ⊥). part_other k i 0 ne) (cases_eq k i)
+part_none k i = grind (arith, nat_tests)
 
 pub part_most : (k i a : ℕ) → part k i a ≤ a
-part_most k i a = ⊎_elim (λ (e : k ≡ i). omega (arith, part_same k i a e)) (λ (ne : k ≡ i → ⊥). omega (arith, part_other k i a ne)) (cases_eq k i)
+part_most k i a = grind (arith, nat_tests)
 
 -- one cell of a table is written, with a more and b less than it was
 module _ (flow flow' : List ℕ) (i j x a b : ℕ) (few : j < 64) (put : Put 0 flow flow' (64 * i + j) x) (moved : x + b ≡ cell flow i j + a) where
