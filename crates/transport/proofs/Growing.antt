@@ -13,10 +13,7 @@ use Rattle.transport.specs.Solver.{round_of, parent_of, room_of, round_at, paren
 
 -- a source without slack is left as it was
 pub relaxed_none : (case : Case) (marks : Marks) (sink : ℕ) (slack toward slack' toward' : List ℕ) (i : ℕ) → Nearer case marks sink slack toward slack' toward' i → at slack i ≡ 0 → (at slack' i ≡ 0) × (at toward' i ≡ at toward i)
-relaxed_none case marks sink slack toward slack' toward' i near none =
-    ⊎_elim (λ (same : (at slack' i ≡ at slack i) × (at toward' i ≡ at toward i) × (at marks.sink sink + at slack i ≤ at marks.source i + cost_of case i sink)). (omega (arith, same.0), same.1))
-    (λ (less : (at toward' i ≡ sink) × (at marks.sink sink + at slack' i ≡ at marks.source i + cost_of case i sink) × (at slack' i < at slack i)). absurd (let z : ⊥ = omega (arith, less.2) in z))
-    near
+relaxed_none case marks sink slack toward slack' toward' i near none = grind arith
 
 pub back_by : (case : Case) (flow : List ℕ) (tree : Tree) (j p t : ℕ) → parent_at tree.reached j ≡ p → at tree.toward p ≡ t → p < case.sources → at tree.slack p ≡ 0 → room_at tree.reached j ≤ cell flow p j → room_at tree.reached j ≤ room_at tree.reached t → round_at tree.reached t < round_at tree.reached j → Back case flow tree j
 back_by case flow tree j p t parent toward inside slack served room round =
@@ -70,7 +67,7 @@ module _ (case : Case) (marks : Marks) (load : Load) (limited : Limited case) (m
       others j ne = ap round_of (met.rest j ne ∙ blank None 64 j)
 
       only : (j : ℕ) → 0 < round_at reached j → j ≡ root
-      only j m = ⊎_elim (λ (e : j ≡ root). e) (λ (ne : j ≡ root → ⊥). absurd (let z : ⊥ = omega (arith, others j ne) in z)) (cases_eq j root)
+      only j m = grind (arith, others j)
 
   pub joined :
       (tree : Tree) (source sink n : ℕ) (slack' toward' : List ℕ) (reached' : List (Option Reached))

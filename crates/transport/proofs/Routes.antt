@@ -89,11 +89,7 @@ module _ (case : Case) (tree : Tree) (amount start : ℕ) (flow : List ℕ) (way
 
     -- no cell has less
     given_more : (p : ℕ) → at flow1 p ≤ at flow2 p
-    given_more p =
-        ⊎_elim
-        (λ (e : p ≡ 64 * source + sink). rw e (omega (arith, give.here)))
-        (λ (ne : p ≡ 64 * source + sink → ⊥). omega (arith, give.rest p ne))
-        (cases_eq p (64 * source + sink))
+    given_more p = grind (arith, give.here, give.rest p)
 
     pub rerouted : sink ≡ tree.root → Rerouted case tree start amount flow flow2
     rerouted e =
@@ -130,11 +126,7 @@ module _ (case : Case) (tree : Tree) (amount start : ℕ) (flow : List ℕ) (way
         columns k l = omega (arith, column_moves flow2 flow3 (parent_at tree.reached sink) sink (cell flow2 (parent_at tree.reached sink) sink - amount) 0 amount few take moved case.sources b.inside k (omega (arith, way.few)), given_columns k l, part_none k sink)
 
         less : (p : ℕ) → at flow3 p ≤ at flow2 p
-        less p =
-            ⊎_elim
-            (λ (e : p ≡ 64 * parent_at tree.reached sink + sink). rw e (omega (arith, take.here)))
-            (λ (other : p ≡ 64 * parent_at tree.reached sink + sink → ⊥). omega (arith, take.rest p other))
-            (cases_eq p (64 * parent_at tree.reached sink + sink))
+        less p = grind (arith, take.here, take.rest p)
 
         fresh : (i j : ℕ) → i < case.sources → j < case.sinks → 0 < cell flow3 i j → (0 < cell flow i j) ⊎ ((at tree.slack i ≡ 0) × (at tree.toward i ≡ j))
         fresh i j li lj f = given_fresh i j li lj (omega (arith, less (64 * i + j)))
@@ -153,11 +145,7 @@ module _ (case : Case) (tree : Tree) (amount start : ℕ) (flow : List ℕ) (way
 
 -- a number of a row falls
 put_falls : (xs xs' : List ℕ) (i a : ℕ) → Put 0 xs xs' i (at xs i - a) → a ≤ at xs i → (k : ℕ) → at xs' k + part k i a ≡ at xs k
-put_falls xs xs' i a put l k =
-    ⊎_elim
-    (λ (e : k ≡ i). rw e (omega (arith, put.here, part_same i i a refl)))
-    (λ (ne : k ≡ i → ⊥). omega (arith, put.rest k ne, part_other k i a ne))
-    (cases_eq k i)
+put_falls xs xs' i a put l k = grind (arith, nat_tests, put.here, put.rest k)
 
 -- so does its sum
 sum_falls : (xs xs' : List ℕ) (i a n : ℕ) → Put 0 xs xs' i (at xs i - a) → a ≤ at xs i → i < n → sum_to (at xs') n + a ≡ sum_to (at xs) n

@@ -18,11 +18,7 @@ sum_same g h (suc n) e = omega (arith, sum_same g h n (λ k l. e k (omega arith)
 -- one term changes
 pub sum_change : (g h : ℕ → ℕ) (n k : ℕ) → k < n → ((i : ℕ) → i < n → (i ≡ k → ⊥) → h i ≡ g i) → sum_to h n + g k ≡ sum_to g n + h k
 sum_change g h zero k l e = absurd (let z : ⊥ = omega arith in z)
-sum_change g h (suc n) k l e =
-    ⊎_elim
-    (λ (same : k ≡ n). let s = sum_same g h n (λ i b. e i (omega arith) (λ z. omega arith)) in rw same (omega arith))
-    (λ (ne : k ≡ n → ⊥). omega (arith, sum_change g h n k (omega arith) (λ i b d. e i (omega arith) d), e n (omega arith) (λ z. omega arith)))
-    (cases_eq k n)
+sum_change g h (suc n) k l e = grind (arith, sum_same g h n, sum_change g h n k, e n)
 
 pub sum_nothing : (g : ℕ → ℕ) (n : ℕ) → ((k : ℕ) → k < n → g k ≡ 0) → sum_to g n ≡ 0
 sum_nothing g zero e = refl
@@ -31,8 +27,7 @@ sum_nothing g (suc n) e = omega (arith, sum_nothing g n (λ k l. e k (omega arit
 -- no term exceeds the sum
 pub sum_at : (g : ℕ → ℕ) (n k : ℕ) → k < n → g k ≤ sum_to g n
 sum_at g zero k l = omega arith
-sum_at g (suc n) k l =
-    ⊎_elim (λ (same : k ≡ n). rw same (omega arith)) (λ (ne : k ≡ n → ⊥). omega (arith, sum_at g n k (omega arith))) (cases_eq k n)
+sum_at g (suc n) k l = grind (arith, sum_at g n k)
 
 -- a sum that is not 0 has a term that is not 0
 pub sum_some : (g : ℕ → ℕ) (n : ℕ) → 0 < sum_to g n → (k : ℕ) × (k < n) × (0 < g k)

@@ -4,11 +4,3 @@ use Rattle.transport.proofs.load.tree.lower_slacks.Goals as goal
 
 pub loop-i-preserved : goal.loop-i-preserved
 loop-i-preserved c = (λ k l f. grind (arith, common_steps), λ k l f. grind (arith, common_steps), λ k l. grind (arith, common_steps))
-
-pub returns : goal.returns
-returns c =
-    record {
-      lowered = λ k l f. grind (arith, common_steps, c.loop-i.invariant.1 k);
-      still = λ k l f. grind (arith, common_steps, c.loop-i.invariant.0 k);
-      size = grind (arith, common_steps);
-    }
