@@ -131,20 +131,10 @@ module _ (case : Case) (marks : Marks) (load : Load) (limited : Limited case) (m
           }
         where
           least : (i j : ℕ) → i < case.sources → j < case.sinks → 0 < round_at reached' j → at marks.sink j + at slack' i ≤ at marks.source i + cost_of case i j
-          least i j li lj m =
-              ⊎_elim
-              (λ (e : j ≡ sink). rw e (elim (relaxed.near i li) [ inl s ↦ omega (arith, s.0, s.2) | inr s ↦ omega (arith, s.1) ]))
-              (λ (ne : j ≡ sink → ⊥).
-              let was : at marks.sink j + at tree.slack i ≤ at marks.source i + cost_of case i j = g.least i j li lj (omega (arith, round_rest j ne)) in
-              elim (relaxed.near i li) [ inl s ↦ omega (arith, s.0) | inr s ↦ omega (arith, s.2) ])
-              (cases_eq j sink)
+          least i j li lj m = grind (arith, relaxed.near i li, g.least i j li lj, round_rest j)
 
           roomy : (j : ℕ) → j < case.sinks → 0 < round_at reached' j → 0 < room_at reached' j
-          roomy j lj m =
-              ⊎_elim
-              (λ (e : j ≡ sink). rw e (omega (arith, room_here, g.roomy (at tree.toward source) (g.inside source si) (g.met source si))))
-              (λ (ne : j ≡ sink → ⊥). omega (arith, room_rest j ne, g.roomy j lj (omega (arith, round_rest j ne))))
-              (cases_eq j sink)
+          roomy j lj m = grind (arith, room_here, room_rest j, round_rest j, g.roomy j, g.roomy (at tree.toward source) (g.inside source si) (g.met source si))
 
           back : (j : ℕ) → j < case.sinks → 0 < round_at reached' j → (j ≡ tree.root → ⊥) → Back case load.flow (record tree { slack = slack'; toward = toward'; reached = reached' }) j
           back j lj m nr =

@@ -46,8 +46,4 @@ sum_shut g (suc n) h = omega (arith, sum_shut g n (λ k l. h k (omega arith)), h
 -- one of them is 0
 pub sum_open : (g : ℕ → ℕ) (n i : ℕ) → i < n → g i ≡ 0 → ((k : ℕ) → k < n → g k ≤ 4294967295) → sum_to g n + 4294967295 ≤ 4294967295 * n
 sum_open g zero i l e h = absurd (let z : ⊥ = omega arith in z)
-sum_open g (suc n) i l e h =
-    ⊎_elim
-    (λ (same : i ≡ n). let z : g n ≡ 0 = rw same at e in omega (arith, sum_shut g n (λ k b. h k (omega arith))))
-    (λ (ne : i ≡ n → ⊥). omega (arith, sum_open g n i (omega arith) e (λ k b. h k (omega arith)), h n (omega arith)))
-    (cases_eq i n)
+sum_open g (suc n) i l e h = grind (arith, sum_shut g n, sum_open g n i, h n)
