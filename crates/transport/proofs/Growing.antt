@@ -289,27 +289,17 @@ module _ (case : Case) (marks : Marks) (load : Load) (limited : Limited case) (m
         (cases_eq (round_at tree.reached j) 0)
 
     fair : (i j : ℕ) → i < case.sources → j < case.sinks → at sink' j ≤ at source' i + cost_of case i j
-    fair i j li lj =
-        let was : at marks.sink j ≤ at marks.source i + cost_of case i j = marked.fair i j li lj in
-        elim (of_source i li) [
-          | inl s ↦ elim (of_sink j lj) [ inl t ↦ omega (arith, s.1, t.1) | inr t ↦ omega (arith, s.1, s.2, t.1, g.least i j li lj t.0) ]
-          | inr s ↦ elim (of_sink j lj) [ inl t ↦ omega (arith, s.1, t.1) | inr t ↦ omega (arith, s.1, t.1) ]
-        ]
+    fair i j li lj = grind (arith, of_source i li, of_sink j lj, marked.fair i j li lj, g.least i j li lj)
 
     tight : (i j : ℕ) → i < case.sources → j < case.sinks → 0 < cell load.flow i j → at sink' j ≡ at source' i + cost_of case i j
-    tight i j li lj f =
-        let was : at marks.sink j ≡ at marks.source i + cost_of case i j = tied.tight i j li lj f in
-        elim (of_source i li) [
-          | inl s ↦ elim (of_sink j lj) [ inl t ↦ omega (arith, s.1, t.1) | inr t ↦ omega (arith, s.1, s.2, t.1, g.least i j li lj t.0) ]
-          | inr s ↦ elim (of_sink j lj) [ inl t ↦ absurd (let z : ⊥ = omega (arith, t.0, g.shut_served i j li lj s.0 f) in z) | inr t ↦ omega (arith, s.1, t.1) ]
-        ]
+    tight i j li lj f = grind (arith, of_source i li, of_sink j lj, tied.tight i j li lj f, g.least i j li lj, g.shut_served i j li lj)
 
     pub raised_marked : Marked case (record { source = source'; sink = sink' })
     raised_marked =
         record {
           fair = fair;
-          source_marks = λ i l. elim (of_source i l) [ inl s ↦ omega (arith, s.1, marked.source_marks i l) | inr s ↦ omega (arith, s.1, rise.sources i l s.0) ];
-          sink_marks = λ j l. elim (of_sink j l) [ inl t ↦ omega (arith, t.1, marked.sink_marks j l) | inr t ↦ omega (arith, t.1, rise.sinks j l t.0) ];
+          source_marks = λ i l. grind (arith, of_source i l, marked.source_marks i l, rise.sources i l);
+          sink_marks = λ j l. grind (arith, of_sink j l, marked.sink_marks j l, rise.sinks j l);
           sources = sources.size;
           sinks = sinks.size;
         }
@@ -322,7 +312,7 @@ module _ (case : Case) (marks : Marks) (load : Load) (limited : Limited case) (m
         }
 
     slack_stays : (i : ℕ) → i < case.sources → at tree.slack i ≡ 0 → at slack' i ≡ 0
-    slack_stays i l e = elim (of_source i l) [ inl s ↦ omega (arith, s.2) | inr s ↦ omega (arith, s.2) ]
+    slack_stays i l e = grind (arith, of_source i l)
 
     grown' : Grown case (record { source = source'; sink = sink' }) load (record tree { slack = slack' })
     grown' =
