@@ -4,8 +4,7 @@
 use audit::refusal::Refusal;
 use ruler::plane::Plane;
 use sheet::sheet::Sheet;
-use std::alloc::{AllocError, AllocFailed, Global};
-use std::num::ParseIntError;
+use std::alloc::{AllocError, Global};
 use std::str::SplitAsciiWhitespace;
 use std::time::Instant;
 use std::{env, io};
@@ -19,65 +18,47 @@ struct Pin {
     current: i32,
 }
 
-// Why the nets end before the text does.
-#[derive(Drop)]
-enum Fault {
-    Malformed,
-    Memory(AllocError),
-}
-
-impl From<ParseIntError> for Fault {
-    fn from(_error: ParseIntError) -> Fault {
-        Fault::Malformed
-    }
-}
-
-impl<T: Drop> From<AllocFailed<T>> for Fault {
-    fn from(refused: AllocFailed<T>) -> Fault {
-        Fault::Memory(AllocError::from(refused))
-    }
-}
-
-fn next_word<'a>(words: &mut SplitAsciiWhitespace<'a>) -> Result<&'a str, Fault> {
-    words.next().ok_or(Fault::Malformed)
-}
-
-fn read_pin(words: &mut SplitAsciiWhitespace) -> Result<Pin, Fault> {
-    Ok(Pin {
-        x: next_word(words)?.parse::<u16>()?,
-        y: next_word(words)?.parse::<u16>()?,
-        current: next_word(words)?.parse::<i32>()?,
+fn read_pin(words: &mut SplitAsciiWhitespace) -> Option<Pin> {
+    Some(Pin {
+        x: words.next()?.parse::<u16>().ok()?,
+        y: words.next()?.parse::<u16>().ok()?,
+        current: words.next()?.parse::<i32>().ok()?,
     })
 }
 
+// The pins of a net, absent where the text is malformed.
 fn read_net(
     heap: Global,
     count: &str,
     words: &mut SplitAsciiWhitespace,
-) -> Result<Vec<Pin>, Fault> {
-    let count = count.parse::<usize>()?;
-    if count > 64 {
-        return Err(Fault::Malformed);
-    }
+) -> Result<Option<Vec<Pin>>, AllocError> {
+    let Some(count) = count.parse::<usize>().ok().filter(|count| *count <= 64) else {
+        return Ok(None);
+    };
     let mut pins = Vec::new(heap);
     for _ in 0..count {
-        pins.push(read_pin(words)?)?;
+        let Some(pin) = read_pin(words) else {
+            return Ok(None);
+        };
+        pins.push(pin)?;
     }
-    Ok(pins)
+    Ok(Some(pins))
 }
 
-// Adds the nets up to the end of the text, or up to the first that is not whole.
-fn read_nets(heap: Global, text: &str, nets: &mut Vec<Vec<Pin>>) -> Result<(), Fault> {
+// Adds the nets up to the end of the text, or up to the first that is malformed, and then answers false.
+fn read_nets(heap: Global, text: &str, nets: &mut Vec<Vec<Pin>>) -> Result<bool, AllocError> {
     let mut words = text.split_ascii_whitespace();
     // No text has more nets than bytes.
     for _ in 0..text.len() {
         let Some(count) = words.next() else {
             break;
         };
-        let net = read_net(heap, count, &mut words)?;
+        let Some(net) = read_net(heap, count, &mut words)? else {
+            return Ok(false);
+        };
         nets.push(net)?;
     }
-    Ok(())
+    Ok(true)
 }
 
 // A net's sheet, its plan and its area.
@@ -146,6 +127,7 @@ fn report(rt: &HostRuntime, nets: &Vec<Vec<Pin>>, rounds: u32) -> io::Result<()>
 }
 
 // The number of rounds that the arguments `time R` ask for.
+// It stands in `lengths` too: no clause can say what a program's arguments are, so no library's call could answer this.
 fn rounds_asked(rt: &HostRuntime) -> io::Result<Option<u32>> {
     let mut args = env::args(rt)?.skip(1);
     let Some(word) = args.next() else {
@@ -161,9 +143,13 @@ fn rounds_asked(rt: &HostRuntime) -> io::Result<Option<u32>> {
 }
 
 // An input that is no text is malformed from its start.
-fn read_input(rt: &HostRuntime, heap: Global, nets: &mut Vec<Vec<Pin>>) -> Result<(), Fault> {
+fn read_input(
+    rt: &HostRuntime,
+    heap: Global,
+    nets: &mut Vec<Vec<Pin>>,
+) -> Result<bool, AllocError> {
     let Ok(text) = io::read_to_string(heap, rt.stdin()) else {
-        return Err(Fault::Malformed);
+        return Ok(false);
     };
     read_nets(heap, text.as_str(), nets)
 }
@@ -171,13 +157,9 @@ fn read_input(rt: &HostRuntime, heap: Global, nets: &mut Vec<Vec<Pin>>) -> Resul
 fn main(rt: HostRuntime) -> io::Result<()> {
     let rounds = rounds_asked(&rt)?;
     let mut nets = Vec::new(rt.alloc());
-    let malformed = match read_input(&rt, rt.alloc(), &mut nets) {
-        Ok(()) => false,
-        Err(Fault::Malformed) => true,
-        Err(Fault::Memory(error)) => return Err(error.into()),
-    };
+    let whole = read_input(&rt, rt.alloc(), &mut nets)?;
     print_areas(&rt, &nets)?;
-    if malformed {
+    if !whole {
         println!(rt; "malformed")?;
     }
     if let Some(rounds) = rounds {

@@ -3,75 +3,68 @@
 
 use ruler::map::{Map, Step, charted};
 use ruler::ruler::Ruler;
-use std::alloc::{AllocError, AllocFailed, Global};
-use std::num::ParseIntError;
+use std::alloc::{AllocError, Global};
 use std::str::SplitAsciiWhitespace;
 use std::time::Instant;
 use std::{env, io};
 
 // Maps from text: sites, ring and the number of legs, then from, to and length of each, all as words between blanks.
 
-// Why the maps end before the text does.
-#[derive(Drop)]
-enum Fault {
-    Malformed,
-    Memory(AllocError),
+fn next_number(words: &mut SplitAsciiWhitespace) -> Option<u32> {
+    words.next()?.parse::<u32>().ok()
 }
 
-impl From<ParseIntError> for Fault {
-    fn from(_error: ParseIntError) -> Fault {
-        Fault::Malformed
-    }
-}
-
-impl<T: Drop> From<AllocFailed<T>> for Fault {
-    fn from(refused: AllocFailed<T>) -> Fault {
-        Fault::Memory(AllocError::from(refused))
-    }
-}
-
-fn next_number(words: &mut SplitAsciiWhitespace) -> Result<u32, Fault> {
-    let word = words.next().ok_or(Fault::Malformed)?;
-    Ok(word.parse::<u32>()?)
-}
-
-fn read_leg(words: &mut SplitAsciiWhitespace) -> Result<Step, Fault> {
-    Ok(Step::Leg {
+fn read_leg(words: &mut SplitAsciiWhitespace) -> Option<Step> {
+    Some(Step::Leg {
         from: next_number(words)?,
         to: next_number(words)?,
         length: next_number(words)?,
     })
 }
 
-// The steps of a map.
+// The first step of a map, and how many legs follow.
+fn read_head(sites: &str, words: &mut SplitAsciiWhitespace) -> Option<(Step, u32)> {
+    let begin = Step::Begin {
+        sites: sites.parse::<u32>().ok()?,
+        ring: next_number(words)?,
+    };
+    Some((begin, next_number(words)?))
+}
+
+// The steps of a map, absent where the text is malformed.
 fn read_map(
     heap: Global,
     sites: &str,
     words: &mut SplitAsciiWhitespace,
-) -> Result<Vec<Step>, Fault> {
+) -> Result<Option<Vec<Step>>, AllocError> {
+    let Some((begin, legs)) = read_head(sites, words) else {
+        return Ok(None);
+    };
     let mut steps = Vec::new(heap);
-    steps.push(Step::Begin {
-        sites: sites.parse::<u32>()?,
-        ring: next_number(words)?,
-    })?;
-    for _ in 0..next_number(words)? {
-        steps.push(read_leg(words)?)?;
+    steps.push(begin)?;
+    for _ in 0..legs {
+        let Some(leg) = read_leg(words) else {
+            return Ok(None);
+        };
+        steps.push(leg)?;
     }
-    Ok(steps)
+    Ok(Some(steps))
 }
 
-// Adds the maps up to the end of the text, or up to the first that is not whole.
-fn read_maps(heap: Global, text: &str, maps: &mut Vec<Vec<Step>>) -> Result<(), Fault> {
+// Adds the maps up to the end of the text, or up to the first that is malformed, and then answers false.
+fn read_maps(heap: Global, text: &str, maps: &mut Vec<Vec<Step>>) -> Result<bool, AllocError> {
     let mut words = text.split_ascii_whitespace();
     // No text has more maps than bytes.
     for _ in 0..text.len() {
         let Some(sites) = words.next() else {
             break;
         };
-        let map = read_map(heap, sites, &mut words)?;
+        let Some(map) = read_map(heap, sites, &mut words)? else {
+            return Ok(false);
+        };
         maps.push(map)?;
     }
-    Ok(())
+    Ok(true)
 }
 
 // The lengths of a map; a map whose begin was refused knows no site and has no line.
@@ -131,6 +124,7 @@ fn report(rt: &HostRuntime, maps: &Vec<Vec<Step>>, rounds: u32) -> io::Result<()
 }
 
 // The number of rounds that the arguments `time R` ask for.
+// It stands in `batch` too: no clause can say what a program's arguments are, so no library's call could answer this.
 fn rounds_asked(rt: &HostRuntime) -> io::Result<Option<u32>> {
     let mut args = env::args(rt)?.skip(1);
     let Some(word) = args.next() else {
@@ -146,9 +140,13 @@ fn rounds_asked(rt: &HostRuntime) -> io::Result<Option<u32>> {
 }
 
 // An input that is no text is malformed from its start.
-fn read_input(rt: &HostRuntime, heap: Global, maps: &mut Vec<Vec<Step>>) -> Result<(), Fault> {
+fn read_input(
+    rt: &HostRuntime,
+    heap: Global,
+    maps: &mut Vec<Vec<Step>>,
+) -> Result<bool, AllocError> {
     let Ok(text) = io::read_to_string(heap, rt.stdin()) else {
-        return Err(Fault::Malformed);
+        return Ok(false);
     };
     read_maps(heap, text.as_str(), maps)
 }
@@ -156,13 +154,9 @@ fn read_input(rt: &HostRuntime, heap: Global, maps: &mut Vec<Vec<Step>>) -> Resu
 fn main(rt: HostRuntime) -> io::Result<()> {
     let rounds = rounds_asked(&rt)?;
     let mut maps = Vec::new(rt.alloc());
-    let malformed = match read_input(&rt, rt.alloc(), &mut maps) {
-        Ok(()) => false,
-        Err(Fault::Malformed) => true,
-        Err(Fault::Memory(error)) => return Err(error.into()),
-    };
+    let whole = read_input(&rt, rt.alloc(), &mut maps)?;
     print_maps(&rt, &maps)?;
-    if malformed {
+    if !whole {
         println!(rt; "malformed")?;
     }
     if let Some(rounds) = rounds {

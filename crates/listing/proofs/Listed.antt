@@ -1,11 +1,10 @@
 -- What a listing that fits answers, leaves and reads back as.
-use Rattle.std.proofs.Common.{◌≡◌, ℕ, ◌^◌, ◌<◌, ◌≤◌, false, cond, ltb, List, ◌++◌, length, take, drop, Some, Ok, Err, Option, sym, ap, ◌∙◌, zero-add, le-ltb}
+use Rattle.std.proofs.Common.{◌≡◌, ℕ, ◌^◌, ◌<◌, ◌≤◌, false, cond, ltb, List, ◌++◌, length, take, drop, Some, Option, sym, ap, ◌∙◌, zero-add, le-ltb}
 use Rattle.std.specs.List.{AllByRecursion}
 use Rattle.std.proofs.lemmas.List.{take_at}
 use Rattle.planner.specs.declared.plan.Plan.{Plan}
 use Rattle.planner.specs.Planned.{links_of}
-use Rattle.listing.specs.declared.refusal.Refusal.TheVariants.{TextTooLong}
-use Rattle.listing.specs.Listing.{Put, Sized, filled, fitted, left_in, text_of}
+use Rattle.listing.specs.Listing.{Put, Sized, filled, left_in, text_of}
 use Rattle.listing.specs.Reading.{read_back, told}
 use Rattle.listing.proofs.Reading.{listing_read}
 
@@ -19,9 +18,6 @@ module _ (text held holds : List ℕ) (n : ℕ) (fits : length text ≤ length h
 
   begins : holds ≡ text ++ drop (length text) held
   begins = put.after ∙ ap (λ k. text ++ drop k held) (zero-add (length text))
-
-  pub put_fitted : Ok n ≡ fitted text (length held)
-  put_fitted = ap Ok count ∙ ap (λ b. cond b (Err TextTooLong) (Ok (length text))) (sym room)
 
   pub put_filled : holds ≡ filled text held
   put_filled = begins ∙ ap (λ b. cond b held (text ++ drop (length text) held)) (sym room)

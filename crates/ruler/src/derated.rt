@@ -14,7 +14,8 @@ pub struct Derated<R> {
 
 impl<R: Ruler> Derated<R> {
     pub fn over(ruler: R, factor: Factor) -> Derated<R>
-        ensures { (result.ruler ≡ ruler) × (result.factor ≡ factor) }
+        ensures ruler { result.ruler ≡ ruler }
+        ensures factor { result.factor ≡ factor }
     {
         Derated { ruler, factor }
     }

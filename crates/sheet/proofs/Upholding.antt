@@ -1,10 +1,9 @@
 -- Rows stay upheld: 64 of them, every terminal on a known site.
-use Rattle.std.proofs.Common.{◌≡◌, ℕ, zero, suc, true, List, [], ◌∷◌, get_or, set, replicate, Some, None, Option, refl, ◌∙◌, length-set}
+use Rattle.std.proofs.Common.{◌≡◌, ℕ, zero, suc, true, List, [], ◌∷◌, get_or, set, Some, None, Option, refl, ◌∙◌, length-set}
 use Rattle.ruler.specs.Meaning.{Meaning}
 use Rattle.wires.specs.declared.terminal.Terminal.{Terminal}
 use Rattle.wires.specs.Wiring.{Seated, seated}
 use Rattle.audit.specs.Law.{Upheld}
-use Rattle.sheet.specs.Ledger.{empty}
 use Rattle.sheet.specs.Questions.{row_known}
 
 pub kept_row : (m : Meaning) (rows : List (Option Terminal)) (i : ℕ) → Seated m (seated rows) → row_known m (get_or rows i None) ≡ true
@@ -27,10 +26,3 @@ seated_set m (None ∷ rows) (suc i) row kept known = seated_set m rows i row ke
 
 pub set_upheld : (m : Meaning) (rows : List (Option Terminal)) (i : ℕ) (row : Option Terminal) → row_known m row ≡ true → Upheld m rows → Upheld m (set rows i row)
 set_upheld m rows i row kept up = record { full = length-set rows i row ∙ up.full; known = seated_set m rows i row kept up.known }
-
-pub empty_upheld : (m : Meaning) → Upheld m empty
-empty_upheld m = record { full = refl; known = none_seated 64 }
-  where
-    none_seated : (n : ℕ) → Seated m (seated (replicate n None))
-    none_seated zero = tt
-    none_seated (suc n) = none_seated n

@@ -103,12 +103,12 @@ fn file(
     show_answer(rt, perform(sheet, &call))
 }
 
-// The mark that a call answers, 0 where it answers none.
-fn mark_of(sheet: &mut Sheet<Plane>, call: &Call) -> u32 {
+// The mark that a call answers.
+fn mark_of(sheet: &mut Sheet<Plane>, call: &Call) -> Option<u32> {
     let Answer::Mark(mark) = perform(sheet, call) else {
-        return 0;
+        return None;
     };
-    mark
+    Some(mark)
 }
 
 // The planned wire that a call answers, between the sites of ids 1 to 4.
@@ -132,7 +132,10 @@ fn wire_of(sheet: &mut Sheet<Plane>, call: &Call, sites: [u32; 4]) -> Option<Wir
 fn file_own(rt: &HostRuntime, sheet: &mut Sheet<Plane>, sites: [u32; 4]) -> io::Result<()> {
     let mut marks = [0; 4];
     for (mark, call) in marks.iter_mut().zip(&calls::MARKS) {
-        *mark = mark_of(sheet, call);
+        let Some(own) = mark_of(sheet, call) else {
+            return println!(rt; "no mark");
+        };
+        *mark = own;
     }
     let Some(first) = wire_of(sheet, &calls::WIRES[0], sites) else {
         return println!(rt; "no first wire");

@@ -66,9 +66,9 @@ fn case_of(count: usize, supply: [u32; 64], demand: [u32; 64], costs: Costs) -> 
         demand,
         cost: [0; 4096],
     };
-    for i in 0..32u32 {
-        for j in 0..32u32 {
-            case.cost[(64 * i + j) as usize] = costs.between(i, j);
+    for (i, row) in case.cost.chunks_exact_mut(64).take(32).enumerate() {
+        for (j, cost) in row.iter_mut().take(32).enumerate() {
+            *cost = costs.between(i as u32, j as u32);
         }
     }
     case
