@@ -63,4 +63,3 @@ loads_map bs r before after answer made =
           let said = (exact anywhere bs).accepts doc file in
           (answer ∙ ap done said.1, drawn anywhere doc file.within said.0 said.2 after (subst (λ s. MapAfter s before after) said.1 made));
     }
-

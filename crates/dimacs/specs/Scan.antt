@@ -1,5 +1,5 @@
 -- A file tested line by line from the top: in a line the first no decides.
-use Rattle.std.specs.Prelude.{ℕ, ◌+◌, ◌-◌, Bool, false, cond, not, ◌&&◌, ◌||◌, List, [], ◌∷◌, ◌++◌, length, ℤ, pos, negsuc, is_some, Some, None, Ok, Err, Option, Result, sum_by, ◌==◌, nat_le, nat_lt, slice_index}
+use Rattle.std.specs.Prelude.{ℕ, ◌+◌, ◌-◌, Bool, false, cond, not, ◌&&◌, List, [], ◌∷◌, ◌++◌, length, ℤ, pos, negsuc, is_some, Some, None, Ok, Err, Option, Result, sum_by, ◌==◌, nat_le, nat_lt, slice_index}
 use Rattle.std.specs.List.{list_any}
 use Rattle.ruler.specs.declared.refusal.Refusal.TheVariants.{LegTooLong}
 use Rattle.audit.specs.declared.refusal.Refusal.TheVariants.{IdTaken, CurrentOutOfRange, SiteUnknown}

@@ -1,10 +1,10 @@
 -- What is known of rows and of a plan is a fact: there is one way at most to know it, so that a type may keep it.
-use Rattle.std.proofs.Common.{◌≡◌, ℕ, true, List, [], ◌∷◌, Some, None, Option}
-use Rattle.std.specs.List.{AllByRecursion, AllByRecursion-prop}
+use Rattle.std.proofs.Common.{List, [], ◌∷◌, Some, None, Option}
+use Rattle.std.specs.List.{AllByRecursion-prop}
 use Rattle.std.specs.Coded.{coded_option}
 use base.Stored.{Coded-set}
 use denote.Struct.Props.{props}
-use mathlib.Core.HLevel.{Π_prop, ×_prop, Unit-prop}
+use mathlib.Core.HLevel.{×_prop, Unit-prop}
 use Rattle.ruler.specs.Meaning.{Meaning}
 use Rattle.wires.specs.declared.terminal.Terminal.{Terminal}
 use Rattle.audit.specs.Law.{Upheld}
