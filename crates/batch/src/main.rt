@@ -79,8 +79,8 @@ fn area_of(pins: &[Pin]) -> Result<u64, Refusal> {
 }
 
 // A line for each net.
-fn print_areas(rt: &HostRuntime, nets: &Vec<Vec<Pin>>) -> io::Result<()> {
-    for pins in nets.iter() {
+fn print_areas(rt: &HostRuntime, nets: &[Vec<Pin>]) -> io::Result<()> {
+    for pins in nets {
         match area_of(pins.as_slice()) {
             Ok(area) => println!(rt; "{area}")?,
             Err(refusal) => println!(rt; "{refusal}")?,
@@ -108,10 +108,10 @@ fn plan_often(sheet: &mut Sheet<Plane>, current: i32, rounds: u32) -> u64 {
 }
 
 // Nets without pins and nets that are refused are left out.
-fn report(rt: &HostRuntime, nets: &Vec<Vec<Pin>>, rounds: u32) -> io::Result<()> {
+fn report(rt: &HostRuntime, nets: &[Vec<Pin>], rounds: u32) -> io::Result<()> {
     let mut nanos = 0u128;
     let mut plans = 0u64;
-    for pins in nets.iter() {
+    for pins in nets {
         let Some(first) = pins.first() else {
             continue;
         };
@@ -139,7 +139,7 @@ fn rounds_asked(rt: &HostRuntime) -> io::Result<Option<u32>> {
     if word.as_str() != "time" {
         return Ok(None);
     }
-    Ok(rounds.as_str().parse::<u32>().ok())
+    Ok(rounds.as_str().parse::<u32>().ok().filter(|rounds| *rounds > 0))
 }
 
 // An input that is no text is malformed from its start.
@@ -158,12 +158,12 @@ fn main(rt: HostRuntime) -> io::Result<()> {
     let rounds = rounds_asked(&rt)?;
     let mut nets = Vec::new(rt.alloc());
     let whole = read_input(&rt, rt.alloc(), &mut nets)?;
-    print_areas(&rt, &nets)?;
+    print_areas(&rt, nets.as_slice())?;
     if !whole {
         println!(rt; "malformed")?;
     }
     if let Some(rounds) = rounds {
-        report(&rt, &nets, rounds)?;
+        report(&rt, nets.as_slice(), rounds)?;
     }
     Ok(())
 }

@@ -89,8 +89,8 @@ fn print_lengths(rt: &HostRuntime, map: &Map) -> io::Result<()> {
     Ok(())
 }
 
-fn print_maps(rt: &HostRuntime, maps: &Vec<Vec<Step>>) -> io::Result<()> {
-    for steps in maps.iter() {
+fn print_maps(rt: &HostRuntime, maps: &[Vec<Step>]) -> io::Result<()> {
+    for steps in maps {
         print_lengths(rt, &charted(steps.as_slice()))?;
     }
     Ok(())
@@ -108,11 +108,11 @@ fn chart_often(steps: &[Step], rounds: u32) -> u64 {
     sum
 }
 
-fn report(rt: &HostRuntime, maps: &Vec<Vec<Step>>, rounds: u32) -> io::Result<()> {
+fn report(rt: &HostRuntime, maps: &[Vec<Step>], rounds: u32) -> io::Result<()> {
     let mut nanos = 0u128;
     let mut legs = 0u64;
     let mut sum = 0u64;
-    for steps in maps.iter() {
+    for steps in maps {
         let start = Instant::now(rt)?;
         sum = sum.saturating_add(chart_often(steps.as_slice(), rounds));
         nanos = nanos.saturating_add(start.elapsed(rt)?.as_nanos());
@@ -136,7 +136,7 @@ fn rounds_asked(rt: &HostRuntime) -> io::Result<Option<u32>> {
     if word.as_str() != "time" {
         return Ok(None);
     }
-    Ok(rounds.as_str().parse::<u32>().ok())
+    Ok(rounds.as_str().parse::<u32>().ok().filter(|rounds| *rounds > 0))
 }
 
 // An input that is no text is malformed from its start.
@@ -155,12 +155,12 @@ fn main(rt: HostRuntime) -> io::Result<()> {
     let rounds = rounds_asked(&rt)?;
     let mut maps = Vec::new(rt.alloc());
     let whole = read_input(&rt, rt.alloc(), &mut maps)?;
-    print_maps(&rt, &maps)?;
+    print_maps(&rt, maps.as_slice())?;
     if !whole {
         println!(rt; "malformed")?;
     }
     if let Some(rounds) = rounds {
-        report(&rt, &maps, rounds)?;
+        report(&rt, maps.as_slice(), rounds)?;
     }
     Ok(())
 }

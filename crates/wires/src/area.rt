@@ -16,9 +16,7 @@ pub fn area_of<R: Ruler>(ruler: &R, wires: &[Wire]) -> Option<u128>
 {
     let mut area: u128 = 0;
     for wire in wires {
-        let Some(length) = ruler.length(wire.start, wire.end) else {
-            return None;
-        };
+        let length = ruler.length(wire.start, wire.end)?;
         area += u128::from(wire.current) * u128::from(length);
     }
     Some(area)

@@ -1,6 +1,7 @@
 // What a sheet answers; nothing changes.
 ghost use Rattle.std.specs.Prelude.{◌≡◌};
 ghost use Rattle.std.specs.Option.{option_map};
+ghost use Rattle.std.specs.Result.{result_map_both};
 ghost use Rattle.audit.specs.Questions.{outcome};
 ghost use Rattle.sheet.specs.Answers.{given, ledger_of, told_area, told_mark, told_wire};
 ghost use Rattle.sheet.specs.Ledger.{asked};
@@ -35,10 +36,10 @@ impl<R: Ruler> Sheet<R> {
     }
 
     // The plan, or the no of the question that asks for it.
-    fn plan_asked(&self) -> Result<Plan, Refusal>
-        ensures { result ≡ given self.now.net.plan }
+    fn plan_asked(&self) -> Result<&Plan, Refusal>
+        ensures { result_map_both (λ p. p.now) (λ why. why) result ≡ given self.now.net.plan }
     {
-        self.net.plan.ok_or(Refusal::NotPlanned)
+        self.planned().ok_or(Refusal::NotPlanned)
     }
 
     // The area of the plan.

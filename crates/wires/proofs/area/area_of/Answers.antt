@@ -12,12 +12,12 @@ use Rattle.wires.proofs.area.area_of.Goals as goal
 of_answer : (m : Meaning) (ws : List Wire) (r : Option ℕ) (P : ℕ → Type 0) → P (area m ws) → r ≡ measured_area m ws → (a : ℕ) → r ≡ Some a → P a
 of_answer m ws r P holds answer a e = subst P (area_is m ws a (sym answer ∙ e)) holds
 
-pub returns-in_default : goal.returns-in_default
-returns-in_default g c =
+pub returns-in_err-length : goal.returns-in_err-length
+returns-in_err-length g c =
     let m = g.R.Ruler.meaning c.args.ruler.now in
     let ws = c.args.wires.now in
     let law = g.met.R.Ruler.metric c.args.ruler.now in
-    let e = area_absent m ws c.loop-wire.wire-index _ c.loop-wire-test.true c.in_default.ensures in
+    let e = c.from_residual.ensures ∙ area_absent m ws c.loop-wire.wire-index _ c.loop-wire-test.true c.in_err-length.ensures in
     record { answer = e; bounded = of_answer m ws _ (Bounded m ws) (bounded m law ws) e; certified = of_answer m ws _ (Certified m ws) (certified m law ws) e; complete = of_answer m ws _ (Complete m ws) (complete m law ws) e }
 
 pub loop-wire-preserved : goal.loop-wire-preserved
@@ -25,7 +25,7 @@ loop-wire-preserved g c =
     let m = g.R.Ruler.meaning c.args.ruler.now in
     let ws = c.args.wires.now in
     let i = c.loop-wire.wire-index in
-    let e = c.in-Some.ensures in
+    let e = c.in_ok-length.ensures in
     let p : c.from.result * c.from-in-loop-wire.result ≤ 2 ^ 32 * 2 ^ 32 = mul-le-mul {n₂ = 2 ^ 32} {m₂ = 2 ^ 32} (omega arith) (omega arith) in
     let s = area_more m ws i _ _ c.loop-wire-test.true e in
     (all_lie_more m ws i _ _ c.loop-wire-test.true e c.loop-wire.invariant.0, cc, omega arith)
