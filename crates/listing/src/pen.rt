@@ -1,4 +1,5 @@
-// A pen writes in a lent buffer: each text at its place, which goes on to the next.
+// A pen writes in a lent buffer: each text at its place, which goes on to the next. The place stands beside the whole
+// buffer, since what lies past the text is promised to stay as it was.
 ghost use Rattle.std.specs.Prelude.{◌≡◌, ◌≤◌, [], ◌∷◌, ◌++◌, length, decimal};
 ghost use Rattle.listing.specs.Pens.{HasRoom, Writes};
 

@@ -1,4 +1,4 @@
-// The calls on a sheet as values, and what each of them answers.
+// The calls on a sheet as values, so that a contract can speak of every run of them, and what each of them answers.
 use audit::refusal::Refusal;
 use wires::wire::Wire;
 
@@ -19,8 +19,9 @@ pub enum Call<'a> {
 pub enum Answer {
     Done,
     Area(u64),
-    // A planned wire: from id, to id, current.
+    // A planned wire: from id, to id, current, as the sheet's own call hands it out.
     Wire(Option<(u32, u32, u32)>),
     Mark(u32),
+    // To perform a call does not fail: a refusal is one of the answers.
     Refused(Refusal),
 }

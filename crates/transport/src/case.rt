@@ -4,7 +4,8 @@ ghost use Rattle.std.specs.List.{list_all, range_with_len};
 ghost use Rattle.transport.specs.Transport.{within};
 ghost use Rattle.transport.specs.Limits.{fit};
 
-// The cost from source i to sink j stands at 64 * i + j. What stands past the sources and the sinks is not read.
+// The cost from source i to sink j stands at 64 * i + j: callers fill this table in, so it keeps its form. What stands
+// past the sources and the sinks is not read.
 #[derive(Clone, Copy)]
 pub struct Case {
     pub sources: usize,

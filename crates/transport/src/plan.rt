@@ -1,6 +1,6 @@
 // What is answered: the flow from each source to each sink, and the marks that show that no flow costs less.
 
-// The flow from source i to sink j stands at 64 * i + j.
+// The flow from source i to sink j stands at 64 * i + j, as the costs do: callers read it, so it keeps its form.
 #[derive(Clone, Copy)]
 pub struct Plan {
     pub flow: [u32; 4096],

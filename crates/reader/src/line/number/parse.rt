@@ -1,4 +1,5 @@
 // The words of a line, taken one after another: a line that has not just its words is refused before any word is looked at.
+// Each is taken by a `let .. else`, so that the refusal stands where its word is.
 ghost use Rattle.std.specs.Prelude.{◌≡◌, ℕ, ◌+◌, ◌≤◌, List, [], ◌∷◌, length, is_some, if◌then◌else◌, Some, None};
 ghost use Rattle.std.specs.Option.{option_map};
 ghost use Rattle.reader.specs.Lines.{arc_said, next_said, node_said, problem_said, said, tail};

@@ -1,4 +1,4 @@
-// Runs of steps that make a map.
+// Runs of steps that make a map: a step is a value, so that a contract can speak of every run of them.
 ghost use Rattle.ruler.specs.Chart.{Follows, Shows, blank, course};
 
 use crate::map::Map;
