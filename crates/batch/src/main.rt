@@ -45,20 +45,23 @@ fn read_net(
     Ok(Some(pins))
 }
 
-// Adds the nets up to the end of the text, or up to the first that is malformed, and then answers false.
-fn read_nets(heap: Global, text: &str, nets: &mut Vec<Vec<Pin>>) -> Result<bool, AllocError> {
+// The nets up to the end of the text, or up to the first that is malformed, which is the last and absent.
+fn read_nets(heap: Global, text: &str) -> Result<Vec<Option<Vec<Pin>>>, AllocError> {
     let mut words = text.split_ascii_whitespace();
-    // No text has more nets than bytes.
+    let mut nets = Vec::new(heap);
+    // No text has more nets than bytes, and a loop of a program has to end.
     for _ in 0..text.len() {
         let Some(count) = words.next() else {
             break;
         };
-        let Some(net) = read_net(heap, count, &mut words)? else {
-            return Ok(false);
-        };
+        let net = read_net(heap, count, &mut words)?;
+        let malformed = net.is_none();
         nets.push(net)?;
+        if malformed {
+            break;
+        }
     }
-    Ok(true)
+    Ok(nets)
 }
 
 // A net's sheet, its plan and its area.
@@ -79,8 +82,11 @@ fn area_of(pins: &[Pin]) -> Result<u64, Refusal> {
 }
 
 // A line for each net.
-fn print_areas(rt: &HostRuntime, nets: &[Vec<Pin>]) -> io::Result<()> {
-    for pins in nets {
+fn print_areas(rt: &HostRuntime, nets: &[Option<Vec<Pin>>]) -> io::Result<()> {
+    for net in nets {
+        let Some(pins) = net else {
+            return println!(rt; "malformed");
+        };
         match area_of(pins.as_slice()) {
             Ok(area) => println!(rt; "{area}")?,
             Err(refusal) => println!(rt; "{refusal}")?,
@@ -108,10 +114,13 @@ fn plan_often(sheet: &mut Sheet<Plane>, current: i32, rounds: u32) -> u64 {
 }
 
 // Nets without pins and nets that are refused are left out.
-fn report(rt: &HostRuntime, nets: &[Vec<Pin>], rounds: u32) -> io::Result<()> {
+fn report(rt: &HostRuntime, nets: &[Option<Vec<Pin>>], rounds: u32) -> io::Result<()> {
     let mut nanos = 0u128;
     let mut plans = 0u64;
-    for pins in nets {
+    for net in nets {
+        let Some(pins) = net else {
+            continue;
+        };
         let Some(first) = pins.first() else {
             continue;
         };
@@ -139,29 +148,29 @@ fn rounds_asked(rt: &HostRuntime) -> io::Result<Option<u32>> {
     if word.as_str() != "time" {
         return Ok(None);
     }
-    Ok(rounds.as_str().parse::<u32>().ok().filter(|rounds| *rounds > 0))
+    Ok(
+        rounds
+            .as_str()
+            .parse::<u32>()
+            .ok()
+            .filter(|rounds| *rounds > 0),
+    )
 }
 
 // An input that is no text is malformed from its start.
-fn read_input(
-    rt: &HostRuntime,
-    heap: Global,
-    nets: &mut Vec<Vec<Pin>>,
-) -> Result<bool, AllocError> {
-    let Ok(text) = io::read_to_string(heap, rt.stdin()) else {
-        return Ok(false);
-    };
-    read_nets(heap, text.as_str(), nets)
+fn read_input(rt: &HostRuntime, heap: Global) -> Result<Vec<Option<Vec<Pin>>>, AllocError> {
+    if let Ok(text) = io::read_to_string(heap, rt.stdin()) {
+        return read_nets(heap, text.as_str());
+    }
+    let mut nets = Vec::new(heap);
+    nets.push(None)?;
+    Ok(nets)
 }
 
 fn main(rt: HostRuntime) -> io::Result<()> {
     let rounds = rounds_asked(&rt)?;
-    let mut nets = Vec::new(rt.alloc());
-    let whole = read_input(&rt, rt.alloc(), &mut nets)?;
+    let nets = read_input(&rt, rt.alloc())?;
     print_areas(&rt, nets.as_slice())?;
-    if !whole {
-        println!(rt; "malformed")?;
-    }
     if let Some(rounds) = rounds {
         report(&rt, nets.as_slice(), rounds)?;
     }

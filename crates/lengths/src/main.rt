@@ -51,20 +51,23 @@ fn read_map(
     Ok(Some(steps))
 }
 
-// Adds the maps up to the end of the text, or up to the first that is malformed, and then answers false.
-fn read_maps(heap: Global, text: &str, maps: &mut Vec<Vec<Step>>) -> Result<bool, AllocError> {
+// The maps up to the end of the text, or up to the first that is malformed, which is the last and absent.
+fn read_maps(heap: Global, text: &str) -> Result<Vec<Option<Vec<Step>>>, AllocError> {
     let mut words = text.split_ascii_whitespace();
-    // No text has more maps than bytes.
+    let mut maps = Vec::new(heap);
+    // No text has more maps than bytes, and a loop of a program has to end.
     for _ in 0..text.len() {
         let Some(sites) = words.next() else {
             break;
         };
-        let Some(map) = read_map(heap, sites, &mut words)? else {
-            return Ok(false);
-        };
+        let map = read_map(heap, sites, &mut words)?;
+        let malformed = map.is_none();
         maps.push(map)?;
+        if malformed {
+            break;
+        }
     }
-    Ok(true)
+    Ok(maps)
 }
 
 // The lengths of a map; a map whose begin was refused knows no site and has no line.
@@ -89,8 +92,11 @@ fn print_lengths(rt: &HostRuntime, map: &Map) -> io::Result<()> {
     Ok(())
 }
 
-fn print_maps(rt: &HostRuntime, maps: &[Vec<Step>]) -> io::Result<()> {
-    for steps in maps {
+fn print_maps(rt: &HostRuntime, maps: &[Option<Vec<Step>>]) -> io::Result<()> {
+    for map in maps {
+        let Some(steps) = map else {
+            return println!(rt; "malformed");
+        };
         print_lengths(rt, &charted(steps.as_slice()))?;
     }
     Ok(())
@@ -108,11 +114,14 @@ fn chart_often(steps: &[Step], rounds: u32) -> u64 {
     sum
 }
 
-fn report(rt: &HostRuntime, maps: &[Vec<Step>], rounds: u32) -> io::Result<()> {
+fn report(rt: &HostRuntime, maps: &[Option<Vec<Step>>], rounds: u32) -> io::Result<()> {
     let mut nanos = 0u128;
     let mut legs = 0u64;
     let mut sum = 0u64;
-    for steps in maps {
+    for map in maps {
+        let Some(steps) = map else {
+            continue;
+        };
         let start = Instant::now(rt)?;
         sum = sum.saturating_add(chart_often(steps.as_slice(), rounds));
         nanos = nanos.saturating_add(start.elapsed(rt)?.as_nanos());
@@ -136,29 +145,29 @@ fn rounds_asked(rt: &HostRuntime) -> io::Result<Option<u32>> {
     if word.as_str() != "time" {
         return Ok(None);
     }
-    Ok(rounds.as_str().parse::<u32>().ok().filter(|rounds| *rounds > 0))
+    Ok(
+        rounds
+            .as_str()
+            .parse::<u32>()
+            .ok()
+            .filter(|rounds| *rounds > 0),
+    )
 }
 
 // An input that is no text is malformed from its start.
-fn read_input(
-    rt: &HostRuntime,
-    heap: Global,
-    maps: &mut Vec<Vec<Step>>,
-) -> Result<bool, AllocError> {
-    let Ok(text) = io::read_to_string(heap, rt.stdin()) else {
-        return Ok(false);
-    };
-    read_maps(heap, text.as_str(), maps)
+fn read_input(rt: &HostRuntime, heap: Global) -> Result<Vec<Option<Vec<Step>>>, AllocError> {
+    if let Ok(text) = io::read_to_string(heap, rt.stdin()) {
+        return read_maps(heap, text.as_str());
+    }
+    let mut maps = Vec::new(heap);
+    maps.push(None)?;
+    Ok(maps)
 }
 
 fn main(rt: HostRuntime) -> io::Result<()> {
     let rounds = rounds_asked(&rt)?;
-    let mut maps = Vec::new(rt.alloc());
-    let whole = read_input(&rt, rt.alloc(), &mut maps)?;
+    let maps = read_input(&rt, rt.alloc())?;
     print_maps(&rt, maps.as_slice())?;
-    if !whole {
-        println!(rt; "malformed")?;
-    }
     if let Some(rounds) = rounds {
         report(&rt, maps.as_slice(), rounds)?;
     }

@@ -27,18 +27,29 @@ fn show(rt: &HostRuntime, answer: Answer) -> io::Result<()> {
 }
 
 // The area and the wires of the plan that the calls come to over the ruler.
-fn plan_over<R: Ruler + Drop>(
-    rt: &HostRuntime,
-    name: &str,
-    ruler: R,
-    calls: &[Call],
-) -> io::Result<()> {
+fn plan_over<R: Ruler + Drop>(rt: &HostRuntime, ruler: R, calls: &[Call]) -> io::Result<()> {
     let mut sheet = follow(ruler, calls);
-    print!(rt; "{name}:")?;
     for call in &nets::SHOWN {
         show(rt, perform(&mut sheet, call))?;
     }
     println!(rt; "")
+}
+
+// Plans over a ruler, and over the same ruler derated.
+fn plan_twice<R: Ruler + Copy + Drop>(
+    rt: &HostRuntime,
+    name: &str,
+    ruler: R,
+    times: u32,
+    calls: &[Call],
+) -> io::Result<()> {
+    print!(rt; "{name}:")?;
+    plan_over(rt, ruler, calls)?;
+    let Ok(factor) = Factor::new(times) else {
+        return println!(rt; "no factor");
+    };
+    print!(rt; "{name} derated by {times}:")?;
+    plan_over(rt, Derated::over(ruler, factor), calls)
 }
 
 // Four sites with four legs, and a ring that none of them needs.
@@ -52,49 +63,14 @@ fn legs() -> Result<Map, Refusal> {
     Ok(map)
 }
 
-fn plan_stack(rt: &HostRuntime) -> io::Result<()> {
+fn main(rt: HostRuntime) -> io::Result<()> {
     let Ok(stack) = Stack::new(10) else {
         return println!(rt; "no stack");
     };
-    let Ok(factor) = Factor::new(16) else {
-        return println!(rt; "no factor");
-    };
-    plan_over(rt, "stack", stack, &nets::LAYERS)?;
-    plan_over(
-        rt,
-        "stack derated by 16",
-        Derated::over(stack, factor),
-        &nets::LAYERS,
-    )
-}
-
-fn plan_map(rt: &HostRuntime) -> io::Result<()> {
     let Ok(map) = legs() else {
         return println!(rt; "no map");
     };
-    let Ok(factor) = Factor::new(2) else {
-        return println!(rt; "no factor");
-    };
-    plan_over(rt, "map", map, &nets::SITES)?;
-    plan_over(
-        rt,
-        "map derated by 2",
-        Derated::over(map, factor),
-        &nets::SITES,
-    )
-}
-
-fn main(rt: HostRuntime) -> io::Result<()> {
-    let Ok(factor) = Factor::new(3) else {
-        return println!(rt; "no factor");
-    };
-    plan_over(&rt, "plane", Plane, &nets::LINE)?;
-    plan_over(
-        &rt,
-        "plane derated by 3",
-        Derated::over(Plane, factor),
-        &nets::LINE,
-    )?;
-    plan_stack(&rt)?;
-    plan_map(&rt)
+    plan_twice(&rt, "plane", Plane, 3, &nets::LINE)?;
+    plan_twice(&rt, "stack", stack, 16, &nets::LAYERS)?;
+    plan_twice(&rt, "map", map, 2, &nets::SITES)
 }

@@ -34,7 +34,7 @@ fn show_list(rt: &HostRuntime, wires: &[Wire]) -> io::Result<()> {
 }
 
 // The marks of the ids that the net uses.
-fn show_table(rt: &HostRuntime, marks: &[u32]) -> io::Result<()> {
+fn show_marks(rt: &HostRuntime, marks: &[u32]) -> io::Result<()> {
     print!(rt; " marks")?;
     for mark in marks.iter().take(4) {
         print!(rt; " {mark}")?;
@@ -44,19 +44,18 @@ fn show_table(rt: &HostRuntime, marks: &[u32]) -> io::Result<()> {
 
 fn show_call(rt: &HostRuntime, call: &Call) -> io::Result<()> {
     match *call {
-        Call::Seat {
-            id,
-            site: at,
-            current,
-        } => print!(rt; "seat {id} with {current} at {}", Point(at)),
-        Call::Move { id, site: at } => print!(rt; "move {id} to {}", Point(at)),
+        Call::Seat { id, site, current } => print!(rt;
+            "seat {id} with {current} at {}",
+            Point(site)
+        ),
+        Call::Move { id, site } => print!(rt; "move {id} to {}", Point(site)),
         Call::Alter { id, current } => print!(rt; "alter {id} to {current}"),
         Call::Lift { id } => print!(rt; "lift {id}"),
         Call::Plan => print!(rt; "plan"),
         Call::Audit { wires, marks } => {
             print!(rt; "audit")?;
             show_list(rt, wires)?;
-            show_table(rt, marks)
+            show_marks(rt, marks)
         }
         Call::Area => print!(rt; "area"),
         Call::Wire { number } => print!(rt; "wire {number}"),
@@ -148,11 +147,9 @@ fn file_own(rt: &HostRuntime, sheet: &mut Sheet<Plane>, sites: [u32; 4]) -> io::
 
 // Whether two sheets answer the calls alike.
 fn alike(a: &mut Sheet<Plane>, b: &mut Sheet<Plane>, calls: &[Call]) -> bool {
-    let mut alike = true;
-    for call in calls {
-        alike = perform(a, call) == perform(b, call) && alike;
-    }
-    alike
+    calls
+        .iter()
+        .all(|call| perform(a, call) == perform(b, call))
 }
 
 fn answer_alike(a: &mut Sheet<Plane>, b: &mut Sheet<Plane>) -> bool {
