@@ -1,6 +1,7 @@
 pub mod Auditing
 pub mod Lowest
 pub mod Meeting
+pub mod Numbered
 pub mod Passing
 pub mod Pins
 pub mod Reading

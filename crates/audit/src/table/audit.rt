@@ -204,8 +204,8 @@ impl Table {
         requires { length marks.now ≡ 64 }
         ensures { result ≡ lowest (λ i. not (mark_fits (row_at self.now.rows i) (mark_at marks.now i))) 64 }
     {
-        for (i, row) in self.rows.iter().enumerate() {
-            if !is_fitting(*row, marks[i]) {
+        for (i, (row, mark)) in self.rows.iter().zip(marks).enumerate() {
+            if !is_fitting(*row, *mark) {
                 return Some(i);
             }
         }
@@ -223,8 +223,8 @@ impl Table {
         requires { length marks.now ≡ 64 }
         ensures { result ≡ pulls (R.meaning ruler.now) self.now.rows marks.now from mark }
     {
-        for (b, row) in self.rows.iter().enumerate() {
-            if is_too_far(ruler, from, mark, *row, marks[b]) {
+        for (row, other) in self.rows.iter().zip(marks) {
+            if is_too_far(ruler, from, mark, *row, *other) {
                 return true;
             }
         }
@@ -236,8 +236,8 @@ impl Table {
         requires { length marks.now ≡ 64 }
         ensures { result ≡ lowest (strained (R.meaning ruler.now) self.now.rows marks.now) 64 }
     {
-        for (a, row) in self.rows.iter().enumerate() {
-            if self.is_strained(ruler, marks, *row, marks[a]) {
+        for (a, (row, mark)) in self.rows.iter().zip(marks).enumerate() {
+            if self.is_strained(ruler, marks, *row, *mark) {
                 return Some(a);
             }
         }

@@ -1,9 +1,14 @@
-use Rattle.std.proofs.Common.{sym, rules}
+use Rattle.std.proofs.Common.{sym, rules, arith}
 use Rattle.audit.proofs.Lowest.{lowest_none, lowest_found}
+use Rattle.audit.proofs.Numbered.{numbered_turn, numbered_end}
 use Rattle.audit.proofs.table.Table.bad_mark.Goals as goal
 
 pub returns : goal.returns
-returns c = sym (lowest_none _ _ (search rules))
+returns c =
+    let all = numbered_end c.args.self.now.rows c.args.marks.now c.loop-i.yielded _ _ c.next.new.self _ (search rules) (search rules) (search rules) c.loop-i.yielded_by (search rules) c.in-None.is c.next.ensures.steps in
+    sym (lowest_none _ _ (λ k h. c.loop-i.invariant k (omega arith)))
 
 pub returns-then-not-is_fitting : goal.returns-then-not-is_fitting
-returns-then-not-is_fitting c = sym (lowest_found _ _ _ c.loop-i.invariant (search rules) (search rules))
+returns-then-not-is_fitting c =
+    let turn = numbered_turn c.args.self.now.rows c.args.marks.now c.loop-i.yielded _ _ c.next.new.self _ (search rules) (search rules) (search rules) c.loop-i.yielded_by _ c.in-Some.is c.next.ensures.steps in
+    sym (lowest_found _ _ _ (λ k h. c.loop-i.invariant k (omega arith)) (search (rules, turn)) (omega arith))
