@@ -200,8 +200,7 @@ impl Table {
     }
 
     // The first row whose mark is out of range.
-    fn bad_mark(&self, marks: &[u32]) -> Option<usize>
-        requires { length marks.now ≡ 64 }
+    fn bad_mark(&self, marks: &[u32; 64]) -> Option<usize>
         ensures { result ≡ lowest (λ i. not (mark_fits (row_at self.now.rows i) (mark_at marks.now i))) 64 }
     {
         for (i, (row, mark)) in self.rows.iter().zip(marks).enumerate() {
@@ -216,11 +215,10 @@ impl Table {
     fn is_strained<R: Ruler>(
         &self,
         ruler: &R,
-        marks: &[u32],
+        marks: &[u32; 64],
         from: Option<Terminal>,
         mark: u32,
     ) -> bool
-        requires { length marks.now ≡ 64 }
         ensures { result ≡ pulls (R.meaning ruler.now) self.now.rows marks.now from mark }
     {
         for (row, other) in self.rows.iter().zip(marks) {
@@ -232,8 +230,7 @@ impl Table {
     }
 
     // The first row that another is marked too far above.
-    fn bad_reach<R: Ruler>(&self, ruler: &R, marks: &[u32]) -> Option<usize>
-        requires { length marks.now ≡ 64 }
+    fn bad_reach<R: Ruler>(&self, ruler: &R, marks: &[u32; 64]) -> Option<usize>
         ensures { result ≡ lowest (strained (R.meaning ruler.now) self.now.rows marks.now) 64 }
     {
         for (a, (row, mark)) in self.rows.iter().zip(marks).enumerate() {
@@ -245,8 +242,7 @@ impl Table {
     }
 
     // The value of the marks on the seated terminals.
-    fn value_of(&self, marks: &[u32]) -> i64
-        requires { length marks.now ≡ 64 }
+    fn value_of(&self, marks: &[u32; 64]) -> i64
         ensures { result ≡ value (pins self.now.rows marks.now) }
     {
         let mut value: i64 = 0;
@@ -260,6 +256,9 @@ impl Table {
     pub fn audit<R: Ruler>(&self, ruler: &R, wires: &[Wire], marks: &[u32]) -> Result<u64, Refusal>
         ensures { result ≡ outcome (audit_asked (R.meaning ruler.now) self.now.rows wires.now marks.now) (area (R.meaning ruler.now) wires.now) }
     {
+        let Some(marks) = marks.as_array() else {
+            return Err(Refusal::MarkCount);
+        };
         self.form_question(ruler, wires, marks)?;
         let area = readable_area(ruler, wires);
         if area as i64 != self.value_of(marks) {
@@ -268,18 +267,15 @@ impl Table {
         Ok(area)
     }
 
-    // All questions but the last.
+    // All questions between the first and the last.
     fn form_question<R: Ruler>(
         &self,
         ruler: &R,
         wires: &[Wire],
-        marks: &[u32],
+        marks: &[u32; 64],
     ) -> Result<(), Refusal>
         ensures { result ≡ outcome (first_no (form_questions (R.meaning ruler.now) self.now.rows wires.now marks.now)) tt }
     {
-        if marks.len() != 64 {
-            return Err(Refusal::MarkCount);
-        }
         if wires.len() > 1_024 {
             return Err(Refusal::WireCount);
         }
