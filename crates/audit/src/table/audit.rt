@@ -98,18 +98,6 @@ fn flow_of(site: u32, wire: Wire) -> i64
     share_of(wire.start, site, current) - share_of(wire.end, site, current)
 }
 
-// The net of a site: what leaves it minus what arrives.
-fn net_of(wires: &[Wire], site: u32) -> i64
-    requires { length wires.now ≤ 1024 }
-    ensures { result ≡ net wires.now site }
-{
-    let mut sum: i64 = 0;
-    for wire in wires {
-        sum += flow_of(site, *wire);
-    }
-    sum
-}
-
 // Taken current × mark of a sink, less given current × mark of a source.
 fn worth_of(row: Option<Terminal>, mark: u32) -> i64
     requires { row_allowed row ≡ true }
@@ -135,6 +123,75 @@ fn readable_area<R: Ruler>(ruler: &R, wires: &[Wire]) -> u64
     }
 }
 
+// Wires filed for a table, few enough that every sum of their currents fits.
+#[derive(Clone, Copy)]
+struct Filing<'a> {
+    table: &'a Table,
+    wires: &'a [Wire],
+    ghost few: { length wires.now ≤ 1024 },
+}
+
+impl Filing<'_> {
+    // The net of a site: what leaves it minus what arrives.
+    fn net_at(&self, site: u32) -> i64
+        ensures { result ≡ net self.now.wires.now site }
+    {
+        let mut sum: i64 = 0;
+        for wire in self.wires {
+            sum += flow_of(site, *wire);
+        }
+        sum
+    }
+
+    // Whether the net of a site is other than what is seated there.
+    fn is_unmet(&self, site: u32) -> bool
+        ensures { result ≡ unmet self.now.table.now.rows self.now.wires.now site }
+    {
+        self.net_at(site) != self.table.due_at(site)
+    }
+
+    // The site found so far, or this one where it is lower and unmet.
+    fn lower_unmet(&self, found: Option<u32>, site: u32) -> Option<u32>
+        ensures lower { result ≡ lowered (unmet self.now.table.now.rows self.now.wires.now) found site }
+        ensures site { IsSite result }
+    {
+        if let Some(low) = found {
+            if low <= site {
+                return found;
+            }
+        }
+        if self.is_unmet(site) {
+            return Some(site);
+        }
+        found
+    }
+
+    // The smallest unmet site that a wire touches.
+    fn unmet_end(&self) -> Option<u32>
+        ensures { Looked (unmet self.now.table.now.rows self.now.wires.now) result self.now.wires.now [] }
+    {
+        let mut found = None;
+        for wire in self.wires {
+            found = self.lower_unmet(found, wire.start);
+            found = self.lower_unmet(found, wire.end);
+        }
+        found
+    }
+
+    // The smallest unmet site: where no wire touches it, a terminal does.
+    fn unmet_site(&self) -> Option<u32>
+        ensures { result ≡ lowest (unmet self.now.table.now.rows self.now.wires.now) (2 ^ 32) }
+    {
+        let mut found = self.unmet_end();
+        for row in &self.table.rows {
+            if let Some(terminal) = *row {
+                found = self.lower_unmet(found, terminal.site);
+            }
+        }
+        found
+    }
+}
+
 impl Table {
     // The sum of the currents seated at a site.
     fn due_at(&self, site: u32) -> i64
@@ -145,58 +202,6 @@ impl Table {
             sum += due_of(*row, site);
         }
         sum
-    }
-
-    // Whether the net of a site is other than what is seated there.
-    fn is_unmet(&self, wires: &[Wire], site: u32) -> bool
-        requires { length wires.now ≤ 1024 }
-        ensures { result ≡ unmet self.now.rows wires.now site }
-    {
-        net_of(wires, site) != self.due_at(site)
-    }
-
-    // The site found so far, or this one where it is lower and unmet.
-    fn lower_unmet(&self, wires: &[Wire], found: Option<u32>, site: u32) -> Option<u32>
-        requires { length wires.now ≤ 1024 }
-        ensures lower { result ≡ lowered (unmet self.now.rows wires.now) found site }
-        ensures site { IsSite result }
-    {
-        if let Some(low) = found {
-            if low <= site {
-                return found;
-            }
-        }
-        if self.is_unmet(wires, site) {
-            return Some(site);
-        }
-        found
-    }
-
-    // The smallest unmet site that a wire touches.
-    fn unmet_end(&self, wires: &[Wire]) -> Option<u32>
-        requires { length wires.now ≤ 1024 }
-        ensures { Looked (unmet self.now.rows wires.now) result wires.now [] }
-    {
-        let mut found = None;
-        for wire in wires {
-            found = self.lower_unmet(wires, found, wire.start);
-            found = self.lower_unmet(wires, found, wire.end);
-        }
-        found
-    }
-
-    // The smallest unmet site: where no wire touches it, a terminal does.
-    fn unmet_site(&self, wires: &[Wire]) -> Option<u32>
-        requires { length wires.now ≤ 1024 }
-        ensures { result ≡ lowest (unmet self.now.rows wires.now) (2 ^ 32) }
-    {
-        let mut found = self.unmet_end(wires);
-        for row in &self.rows {
-            if let Some(terminal) = *row {
-                found = self.lower_unmet(wires, found, terminal.site);
-            }
-        }
-        found
     }
 
     // The first row whose mark is out of range.
@@ -279,6 +284,7 @@ impl Table {
         if wires.len() > 1_024 {
             return Err(Refusal::WireCount);
         }
+        let filing = Filing { table: self, wires };
         if let Some(i) = bad_current(wires) {
             return Err(Refusal::WireCurrent { wire: i as u32 });
         }
@@ -288,7 +294,7 @@ impl Table {
         if let Some(i) = self.bad_mark(marks) {
             return Err(Refusal::MarkOutOfRange { id: i as u32 + 1 });
         }
-        if let Some(site) = self.unmet_site(wires) {
+        if let Some(site) = filing.unmet_site() {
             return Err(Refusal::Unmet { site });
         }
         if let Some(a) = self.bad_reach(ruler, marks) {

@@ -2,7 +2,7 @@
 use Rattle.std.proofs.Common.{[], take}
 use Rattle.audit.specs.Audit.{unmet}
 use Rattle.audit.specs.Search.{Looked}
-use Rattle.audit.proofs.table.Table.unmet_end.Given as goal
+use Rattle.audit.proofs.table.audit.Filing.unmet_end.Given as goal
 
 abbrev pub invariant-loop-wire : goal.invariant-loop-wire
-invariant-loop-wire l = Looked (unmet l.self.rows l.wires) l.found (take l.wire-index l.wires) []
+invariant-loop-wire l = Looked (unmet l.self.table.now.rows l.self.wires.now) l.found (take l.wire-index l.self.wires.now) []

@@ -2,7 +2,7 @@
 use Rattle.std.proofs.Common.{take}
 use Rattle.audit.specs.Audit.{unmet}
 use Rattle.audit.specs.Search.{Looked}
-use Rattle.audit.proofs.table.Table.unmet_site.Given as goal
+use Rattle.audit.proofs.table.audit.Filing.unmet_site.Given as goal
 
 abbrev pub invariant-loop-row : goal.invariant-loop-row
-invariant-loop-row l = Looked (unmet l.self.rows l.wires) l.found l.wires (take l.row-index l.self.rows)
+invariant-loop-row l = Looked (unmet l.self.table.now.rows l.self.wires.now) l.found l.self.wires.now (take l.row-index l.self.table.now.rows)
