@@ -1,5 +1,6 @@
 -- How a tree grows: from its root, by sinks that join, by raised marks and by closed sources.
-use Rattle.std.proofs.Common.{◌≡◌, ℕ, ◌+◌, ◌*◌, ◌<◌, ◌≤◌, min, max, ◌⊎◌, Option, Some, None, List, length, replicate, refl, ap, ◌∙◌, subst, inl, inr, ⊎_elim, arith, below_more}
+use Rattle.std.proofs.Common.{◌≡◌, ℕ, ◌+◌, ◌*◌, ◌<◌, ◌≤◌, min, max, ◌⊎◌, Option, Some, None, List, length, replicate, refl, ap, ◌∙◌, subst, inl, inr, ⊎_elim, arith, below_more, Bool, cond, nat_lt, ◌++◌, take, drop, length-drop}
+use Rattle.std.proofs.lemmas.List.{get_or-take, length-take-le, length-append, get_or_append_left}
 use Rattle.std.proofs.lemmas.Bool.{cases_eq}
 use Rattle.transport.proofs.Writes.{blank}
 use Rattle.transport.proofs.Sums.{sum_change, sum_some, sum_open}
@@ -10,6 +11,26 @@ use Rattle.transport.specs.declared.load.tree.Reached.{Reached}
 use Rattle.transport.specs.declared.load.tree.Tree.{Tree}
 use Rattle.transport.specs.Transport.{at, cell, cost_of, sum_to}
 use Rattle.transport.specs.Solver.{round_of, parent_of, room_of, round_at, parent_at, room_at, Limited, Marked, Tied, Back, Grown, Joined, Absorbed, Relaxed, Nearer, Put, Raised, Lowered, Nearest, Rising, Tightened}
+
+-- the first `count` numbers of a row give way to others, and the rest stays
+abbrev pub renewed : ℕ → List ℕ → List ℕ → List ℕ
+renewed count old front = front ++ drop count old
+
+-- a row of marks, of whose first `count` those were raised that are inside
+module _ (inside : ℕ → ℕ) (tells : ℕ → Bool → Type 0) (count by : ℕ) (mark front : List ℕ)
+    (few : count ≤ 64) (long : length mark ≡ 64)
+    (told : (k : ℕ) (b : Bool) → k < count → tells k b → b ≡ nat_lt 0 (inside k))
+    (r : Raised tells by (take count mark) front) where
+  front_size : length front ≡ count
+  front_size = omega (arith, r.size, length-take-le count mark (omega arith))
+
+  pub renewed_size : length (renewed count mark front) ≡ 64
+  renewed_size = omega (arith, front_size, length-append front (drop count mark), length-drop count mark)
+
+  pub renewed_at : (k : ℕ) → k < count → at (renewed count mark front) k ≡ at mark k + cond (nat_lt 0 (inside k)) by 0
+  renewed_at k l =
+      let new = r.raised k (omega (arith, length-take-le count mark (omega arith))) in
+      rw (get_or_append_left front (drop count mark) 0 k (omega (arith, front_size)), ← told k new.0 l new.1, ← get_or-take count mark k 0 l) new.2
 
 -- a source without slack is left as it was
 pub relaxed_none : (case : Case) (marks : Marks) (sink : ℕ) (slack toward slack' toward' : List ℕ) (i : ℕ) → Nearer case marks sink slack toward slack' toward' i → at slack i ≡ 0 → (at slack' i ≡ 0) × (at toward' i ≡ at toward i)
@@ -269,24 +290,43 @@ module _ (case : Case) (marks : Marks) (load : Load) (limited : Limited case) (m
 
   -- marks and slacks after the marks in the tree rose by the slack of a source
   module _
-      (tree : Tree) (source : ℕ) (source' slack' sink' : List ℕ)
+      (tree : Tree) (source : ℕ) (closes reaches : ℕ → Bool → Type 0) (source_front slack' sink_front : List ℕ)
       (g : Grown case marks load tree) (rise : Rising case marks tree source)
-      (sources : Raised (at tree.closed) case.sources (at tree.slack source) marks.source source')
+      (closed : (i : ℕ) (b : Bool) → i < case.sources → closes i b → b ≡ nat_lt 0 (at tree.closed i))
+      (reached : (j : ℕ) (b : Bool) → j < case.sinks → reaches j b → b ≡ nat_lt 0 (round_at tree.reached j))
+      (sources : Raised closes (at tree.slack source) (take case.sources marks.source) source_front)
       (slacks : Lowered (at tree.closed) case.sources (at tree.slack source) tree.slack slack')
-      (sinks : Raised (round_at tree.reached) case.sinks (at tree.slack source) marks.sink sink') where
+      (sinks : Raised reaches (at tree.slack source) (take case.sinks marks.sink) sink_front) where
+    abbrev source' : List ℕ
+    source' = renewed case.sources marks.source source_front
+
+    abbrev sink' : List ℕ
+    sink' = renewed case.sinks marks.sink sink_front
+
+    few_sources : case.sources ≤ 64
+    few_sources = omega (arith, limited.few)
+
+    few_sinks : case.sinks ≤ 64
+    few_sinks = omega (arith, limited.few)
+
     of_source : (i : ℕ) → i < case.sources → ((at tree.closed i ≡ 0) × (at source' i ≡ at marks.source i) × (at slack' i + at tree.slack source ≡ at tree.slack i)) ⊎ ((0 < at tree.closed i) × (at source' i ≡ at marks.source i + at tree.slack source) × (at slack' i ≡ at tree.slack i))
     of_source i l =
+        let new = renewed_at (at tree.closed) closes case.sources _ marks.source source_front few_sources marked.sources closed sources i l in
         ⊎_elim
-        (λ (e : at tree.closed i ≡ 0). inl (e, sources.still i l e, slacks.lowered i l e))
-        (λ (ne : at tree.closed i ≡ 0 → ⊥). let c : 0 < at tree.closed i = omega arith in inr (c, sources.raised i l c, slacks.still i l c))
+        (λ (e : at tree.closed i ≡ 0). inl (e, grind (arith, new), slacks.lowered i l e))
+        (λ (ne : at tree.closed i ≡ 0 → ⊥). let c : 0 < at tree.closed i = omega arith in inr (c, grind (arith, new), slacks.still i l c))
         (cases_eq (at tree.closed i) 0)
 
     of_sink : (j : ℕ) → j < case.sinks → ((round_at tree.reached j ≡ 0) × (at sink' j ≡ at marks.sink j)) ⊎ ((0 < round_at tree.reached j) × (at sink' j ≡ at marks.sink j + at tree.slack source))
     of_sink j l =
+        let new = renewed_at (round_at tree.reached) reaches case.sinks _ marks.sink sink_front few_sinks marked.sinks reached sinks j l in
         ⊎_elim
-        (λ (e : round_at tree.reached j ≡ 0). inl (e, sinks.still j l e))
-        (λ (ne : round_at tree.reached j ≡ 0 → ⊥). let m : 0 < round_at tree.reached j = omega arith in inr (m, sinks.raised j l m))
+        (λ (e : round_at tree.reached j ≡ 0). inl (e, grind (arith, new)))
+        (λ (ne : round_at tree.reached j ≡ 0 → ⊥). let m : 0 < round_at tree.reached j = omega arith in inr (m, grind (arith, new)))
         (cases_eq (round_at tree.reached j) 0)
+
+    lifted : (j : ℕ) → j < case.sinks → 0 < round_at tree.reached j → at sink' j ≡ at marks.sink j + at tree.slack source
+    lifted j l m = grind (arith, of_sink j l)
 
     fair : (i j : ℕ) → i < case.sources → j < case.sinks → at sink' j ≤ at source' i + cost_of case i j
     fair i j li lj = grind (arith, of_source i li, of_sink j lj, marked.fair i j li lj, g.least i j li lj)
@@ -300,8 +340,8 @@ module _ (case : Case) (marks : Marks) (load : Load) (limited : Limited case) (m
           fair = fair;
           source_marks = λ i l. grind (arith, of_source i l, marked.source_marks i l, rise.sources i l);
           sink_marks = λ j l. grind (arith, of_sink j l, marked.sink_marks j l, rise.sinks j l);
-          sources = sources.size;
-          sinks = sinks.size;
+          sources = renewed_size (at tree.closed) closes case.sources _ marks.source source_front few_sources marked.sources closed sources;
+          sinks = renewed_size (round_at tree.reached) reaches case.sinks _ marks.sink sink_front few_sinks marked.sinks reached sinks;
         }
 
     pub raised_tied : Tied case (record { source = source'; sink = sink' }) load
@@ -321,12 +361,12 @@ module _ (case : Case) (marks : Marks) (load : Load) (limited : Limited case) (m
           met = g.met;
           gap =
               λ i l.
-              let lifted : at sink' (at tree.toward i) ≡ at marks.sink (at tree.toward i) + at tree.slack source = sinks.raised (at tree.toward i) (g.inside i l) (g.met i l) in
-              elim (of_source i l) [ inl s ↦ omega (arith, s.1, s.2, g.gap i l) | inr s ↦ omega (arith, s.1, s.2, g.gap i l) ];
+              let above = lifted (at tree.toward i) (g.inside i l) (g.met i l) in
+              elim (of_source i l) [ inl s ↦ omega (arith, above, s.1, s.2, g.gap i l) | inr s ↦ omega (arith, above, s.1, s.2, g.gap i l) ];
           least =
               λ i j li lj m.
-              let lifted : at sink' j ≡ at marks.sink j + at tree.slack source = sinks.raised j lj m in
-              elim (of_source i li) [ inl s ↦ omega (arith, s.1, s.2, g.least i j li lj m) | inr s ↦ omega (arith, s.1, s.2, g.least i j li lj m) ];
+              let above = lifted j lj m in
+              elim (of_source i li) [ inl s ↦ omega (arith, above, s.1, s.2, g.least i j li lj m) | inr s ↦ omega (arith, above, s.1, s.2, g.least i j li lj m) ];
           flag = g.flag;
           shut_slack = λ i l c. slack_stays i l (g.shut_slack i l c);
           shut_stock = g.shut_stock;

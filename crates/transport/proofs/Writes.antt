@@ -1,5 +1,5 @@
 -- One written item of a row, by what it changes and what it leaves.
-use Rattle.std.proofs.Common.{◌≡◌, ℕ, zero, suc, ◌<◌, true, false, Option, Some, None, is_none, List, length, set, replicate, slice_index_or, refl, length-set, get_or-set_other, get_or-set_same, arith}
+use Rattle.std.proofs.Common.{◌≡◌, ℕ, zero, suc, ◌<◌, true, false, Option, Some, None, is_none, is_some, nat_lt, List, length, set, replicate, slice_index_or, refl, length-set, get_or-set_other, get_or-set_same, arith}
 use Rattle.transport.specs.Solver.{Put, round_of}
 use Rattle.transport.specs.declared.load.tree.Reached.{Reached}
 
@@ -22,3 +22,7 @@ round_none (Some r) e = cc
 pub round_some : (o : Option Reached) → is_none o ≡ false → 0 < round_of o
 round_some None e = cc
 round_some (Some r) e = omega arith
+
+pub some_round : (o : Option Reached) → is_some o ≡ nat_lt 0 (round_of o)
+some_round None = refl
+some_round (Some r) = grind arith

@@ -1,5 +1,5 @@
 -- What the solver keeps: between phases, and while a tree grows.
-use Rattle.std.specs.Prelude.{◌≡◌, ℕ, ◌+◌, ◌<◌, ◌≤◌, max, cond, ◌⊎◌, List, length, Some, None, Option, ◌==◌, ◌≢◌, slice_index_or}
+use Rattle.std.specs.Prelude.{◌≡◌, ℕ, ◌+◌, ◌<◌, ◌≤◌, Bool, max, cond, ◌⊎◌, List, length, Some, None, Option, ◌==◌, ◌≢◌, slice_index_or}
 use Rattle.transport.specs.declared.case.Case.{Case}
 use Rattle.transport.specs.declared.load.Marks.{Marks}
 use Rattle.transport.specs.declared.load.Load.{Load}
@@ -87,11 +87,10 @@ pub record Nearest (slack closed : List ℕ) (count source : ℕ) : Type 0 where
   pub inside : source < count
   pub least : (k : ℕ) → k < count → max (at slack source) (at closed source) ≤ max (at slack k) (at closed k)
 
--- marks after those were raised that are in the tree
-pub record Raised (inside : ℕ → ℕ) (count by : ℕ) (mark mark' : List ℕ) : Type 0 where
-  pub raised : (k : ℕ) → k < count → 0 < inside k → at mark' k ≡ at mark k + by
-  pub still : (k : ℕ) → k < count → inside k ≡ 0 → at mark' k ≡ at mark k
-  pub size : length mark' ≡ 64
+-- marks after those were raised that are in the tree; of each, `inside` tells whether it is
+pub record Raised (inside : ℕ → Bool → Type 0) (by : ℕ) (mark mark' : List ℕ) : Type 0 where
+  pub raised : (k : ℕ) → k < length mark → (b : Bool) × inside k b × (at mark' k ≡ at mark k + cond b by 0)
+  pub size : length mark' ≡ length mark
 
 -- slacks after those were lowered that are not closed
 pub record Lowered (closed : ℕ → ℕ) (count by : ℕ) (slack slack' : List ℕ) : Type 0 where

@@ -1,6 +1,6 @@
 // The tree of a phase: it grows from a sink that wants more, over sources and the sinks that they serve, until it comes
 // to a source that still has something.
-ghost use Rattle.std.specs.Prelude.{◌≡◌, ℕ, ◌+◌, ◌<◌, ◌≤◌};
+ghost use Rattle.std.specs.Prelude.{◌≡◌, ℕ, ◌+◌, ◌<◌, ◌≤◌, true, length};
 ghost use Rattle.transport.specs.Transport.{at, cell, sum_to};
 ghost use Rattle.transport.specs.Solver.{round_at, Grown, Joined, Absorbed, Found, Relaxed, Raised, Lowered, Nearest, Rising, Tightened};
 
@@ -67,14 +67,15 @@ fn nearest(slack: &[u32; 64], closed: &[u32; 64], count: usize) -> usize
     source
 }
 
-// Raises the marks of the closed sources.
-fn raise_sources(source: &mut [u32; 64], closed: &[u32; 64], count: usize, by: u32)
-    requires { (count ≤ 64) × (((i : ℕ) → i < count → 0 < at closed.now i → at source.old i + by ≤ 4000000)) }
-    ensures { Raised (at closed.now) count by source.old source.new }
+// Raises the marks that are in the tree.
+fn raise_marks<F: Fn(usize) -> bool>(marks: &mut [u32], is_inside: F, by: u32)
+    requires asks { (k : ℕ) → k < length marks.old → F.pre is_inside k }
+    requires rises { (k : ℕ) → k < length marks.old → F.post is_inside k true → at marks.old k + by ≤ 4000000 }
+    ensures { Raised (F.post is_inside) by marks.old marks.new }
 {
-    for (i, source) in source[..count].iter_mut().enumerate() {
-        let rise = if closed[i] == 0 { 0 } else { by };
-        *source += rise;
+    for (k, mark) in marks.iter_mut().enumerate() {
+        let rise = if is_inside(k) { by } else { 0 };
+        *mark += rise;
     }
 }
 
@@ -86,17 +87,6 @@ fn lower_slacks(slack: &mut [u32; 64], closed: &[u32; 64], count: usize, by: u32
     for (i, slack) in slack[..count].iter_mut().enumerate() {
         let fall = if closed[i] == 0 { by } else { 0 };
         *slack -= fall;
-    }
-}
-
-// Raises the marks of the reached sinks.
-fn raise_sinks(sink: &mut [u32; 64], reached: &[Option<Reached>; 64], count: usize, by: u32)
-    requires { (count ≤ 64) × (((j : ℕ) → j < count → 0 < round_at reached.now j → at sink.old j + by ≤ 4000000)) }
-    ensures { Raised (round_at reached.now) count by sink.old sink.new }
-{
-    for (j, sink) in sink[..count].iter_mut().enumerate() {
-        let rise = if reached[j].is_some() { by } else { 0 };
-        *sink += rise;
     }
 }
 
@@ -174,9 +164,10 @@ impl Tree {
             return;
         }
         let Case { sources, sinks, .. } = *market.case;
-        raise_sources(&mut market.marks.source, &self.closed, sources, by);
+        let marks = &mut market.marks;
+        raise_marks(&mut marks.source[..sources], |i| self.closed[i] > 0, by);
         lower_slacks(&mut self.slack, &self.closed, sources, by);
-        raise_sinks(&mut market.marks.sink, &self.reached, sinks, by);
+        raise_marks(&mut marks.sink[..sinks], |j| self.reached[j].is_some(), by);
     }
 
     // Grows the tree to a source that has something left, and raises the marks so that it is tight.
