@@ -1,10 +1,11 @@
 -- How the phases begin and what they end with.
-use Rattle.std.proofs.Common.{◌≡◌, ℕ, ◌+◌, ◌*◌, ◌<◌, true, leb, List, length, replicate, refl, arith}
+use Rattle.std.proofs.Common.{◌≡◌, ℕ, ◌+◌, ◌*◌, ◌<◌, true, leb, List, length, replicate, refl, take, None, arith}
+use Rattle.std.proofs.lemmas.List.{get_or-take, length-take-le}
 use lib.ListN.{length-replicate}
 use Rattle.std.proofs.lemmas.Bool.{and_parts, leb-true, eqb-true}
 use Rattle.transport.specs.declared.case.Case.{Case}
 use Rattle.transport.specs.Transport.{at, cell, cost_of, each, amounts_fit, costs_fit, balanced, within, Optimal}
-use Rattle.transport.specs.Solver.{Limited, Marked, Tied, Summed}
+use Rattle.transport.specs.Solver.{Limited, Marked, Tied, Summed, Neediest}
 use Rattle.transport.proofs.Sums.{sum_nothing, sum_at}
 use Rattle.transport.proofs.Every.{each_at}
 use Rattle.transport.proofs.Writes.{blank}
@@ -50,11 +51,11 @@ summed_none case limited supplies demands =
     }
 
 -- where no sink wants anything, no source has anything, and the plan is of least cost
-pub optimal : (case : Case) (flow stock want source sink : List ℕ) (phases : ℕ) → Marked case (record { source = source; sink = sink }) → Tied case (record { source = source; sink = sink }) (record { flow = flow; stock = stock; want = want }) → Summed case (record { flow = flow; stock = stock; want = want }) → ((j : ℕ) → j < case.sinks → at want j ≡ 0) → Optimal case (record { flow = flow; source_mark = source; sink_mark = sink; phases = phases })
-optimal case flow stock want source sink phases marked tied summed none =
+pub optimal : (case : Case) (flow stock want source sink : List ℕ) (phases : ℕ) → Limited case → Marked case (record { source = source; sink = sink }) → Tied case (record { source = source; sink = sink }) (record { flow = flow; stock = stock; want = want }) → Summed case (record { flow = flow; stock = stock; want = want }) → Neediest (take case.sinks want) None → Optimal case (record { flow = flow; source_mark = source; sink_mark = sink; phases = phases })
+optimal case flow stock want source sink phases limited marked tied summed none =
     record {
-      sent = λ i l. omega (arith, summed.sent i l, sum_at (at stock) case.sources i l, summed.even, sum_nothing (at want) case.sinks none);
-      received = λ j l. omega (arith, summed.received j l, none j l);
+      sent = λ i l. omega (arith, summed.sent i l, sum_at (at stock) case.sources i l, summed.even, sum_nothing (at want) case.sinks served);
+      received = λ j l. omega (arith, summed.received j l, served j l);
       fair = marked.fair;
       tight = tied.tight;
       source_marks = marked.source_marks;
@@ -63,3 +64,6 @@ optimal case flow stock want source sink phases marked tied summed none =
       source_size = marked.sources;
       sink_size = marked.sinks;
     }
+  where
+    served : (j : ℕ) → j < case.sinks → at want j ≡ 0
+    served j l = omega (arith, get_or-take case.sinks want j 0 l, none j (omega (arith, length-take-le case.sinks want (omega (arith, summed.wants, limited.few)))))

@@ -12,25 +12,16 @@ use Rattle.transport.specs.declared.load.tree.Tree.{Tree}
 use Rattle.transport.specs.Transport.{at, cell, cost_of, sum_to}
 use Rattle.transport.specs.Solver.{round_of, parent_of, room_of, round_at, parent_at, room_at, Limited, Marked, Tied, Back, Grown, Joined, Absorbed, Relaxed, Nearer, Put, Raised, Lowered, Nearest, Rising, Tightened}
 
--- the first `count` numbers of a row give way to others, and the rest stays
+-- a row whose first `count` numbers gave way to as many others
 abbrev pub renewed : ℕ → List ℕ → List ℕ → List ℕ
 renewed count old front = front ++ drop count old
 
--- a row of marks, of whose first `count` those were raised that are inside
-module _ (inside : ℕ → ℕ) (tells : ℕ → Bool → Type 0) (count by : ℕ) (mark front : List ℕ)
-    (few : count ≤ 64) (long : length mark ≡ 64)
-    (told : (k : ℕ) (b : Bool) → k < count → tells k b → b ≡ nat_lt 0 (inside k))
-    (r : Raised tells by (take count mark) front) where
-  front_size : length front ≡ count
-  front_size = omega (arith, r.size, length-take-le count mark (omega arith))
+module _ (count : ℕ) (old front : List ℕ) (few : count ≤ length old) (size : length front ≡ length (take count old)) where
+  pub renewed_size : length (renewed count old front) ≡ length old
+  renewed_size = omega (arith, size, length-take-le count old few, length-append front (drop count old), length-drop count old)
 
-  pub renewed_size : length (renewed count mark front) ≡ 64
-  renewed_size = omega (arith, front_size, length-append front (drop count mark), length-drop count mark)
-
-  pub renewed_at : (k : ℕ) → k < count → at (renewed count mark front) k ≡ at mark k + cond (nat_lt 0 (inside k)) by 0
-  renewed_at k l =
-      let new = r.raised k (omega (arith, length-take-le count mark (omega arith))) in
-      rw (get_or_append_left front (drop count mark) 0 k (omega (arith, front_size)), ← told k new.0 l new.1, ← get_or-take count mark k 0 l) new.2
+  pub renewed_at : (k : ℕ) → k < count → at (renewed count old front) k ≡ at front k
+  renewed_at k l = get_or_append_left front (drop count old) 0 k (omega (arith, size, length-take-le count old few))
 
 -- a source without slack is left as it was
 pub relaxed_none : (case : Case) (marks : Marks) (sink : ℕ) (slack toward slack' toward' : List ℕ) (i : ℕ) → Nearer case marks sink slack toward slack' toward' i → at slack i ≡ 0 → (at slack' i ≡ 0) × (at toward' i ≡ at toward i)
@@ -260,23 +251,29 @@ module _ (case : Case) (marks : Marks) (load : Load) (limited : Limited case) (m
     pub source_rises : (by : ℕ) → by ≤ at tree.slack spare → (i : ℕ) → i < case.sources → 0 < at tree.closed i → at marks.source i + by ≤ 4000000
     source_rises by l i li c = omega (arith, sink_rises by l (at tree.toward i) (g.inside i li) (g.met i li), g.gap i li, g.shut_slack i li c)
 
-    pub chosen : (source : ℕ) → Nearest tree.slack tree.closed case.sources source → (at tree.closed source ≡ 0) × ((i : ℕ) → i < case.sources → at tree.closed i ≡ 0 → at tree.slack source ≤ at tree.slack i)
-    chosen source near =
+    pub chosen : (source : ℕ) → source < case.sources → Nearest (take case.sources tree.slack) (take case.sources tree.closed) source → (at tree.closed source ≡ 0) × ((i : ℕ) → i < case.sources → at tree.closed i ≡ 0 → at tree.slack source ≤ at tree.slack i)
+    chosen source inside' near =
         let far : at tree.slack spare ≤ 4000000 = omega (arith, g.least spare tree.root inside g.root_inside g.root_met, tied.unraised spare inside stocked, limited.costs spare tree.root inside g.root_inside) in
-        let most : max (at tree.slack source) (at tree.closed source) ≤ max (at tree.slack spare) (at tree.closed spare) = near.least spare inside in (
-          elim (g.flag source near.inside) [ inl e ↦ e | inr e ↦ absurd (let z : ⊥ = omega (arith, spare_still) in z) ],
-          λ i li e. omega (arith, near.least i li),
+        let most = least spare inside in (
+          elim (g.flag source inside') [ inl e ↦ e | inr e ↦ absurd (let z : ⊥ = omega (arith, spare_still) in z) ],
+          λ i li e. omega (arith, least i li),
         )
+      where
+        least : (k : ℕ) → k < case.sources → max (at tree.slack source) (at tree.closed source) ≤ max (at tree.slack k) (at tree.closed k)
+        least k l =
+            rw (← get_or-take case.sources tree.slack source 0 inside', ← get_or-take case.sources tree.closed source 0 inside', ← get_or-take case.sources tree.slack k 0 l, ← get_or-take case.sources tree.closed k 0 l)
+            (near.least k (omega (arith, length-take-le case.sources tree.slack (omega (arith, g.slacks, limited.few)))))
 
     -- the marks can rise by the least slack
-    pub rising : (source : ℕ) → Nearest tree.slack tree.closed case.sources source → Rising case marks tree source
+    pub rising : (source : ℕ) → Nearest (take case.sources tree.slack) (take case.sources tree.closed) source → Rising case marks tree source
     rising source near =
-        let picked = chosen source near in
+        let here : source < case.sources = omega (arith, near.inside, length-take-le case.sources tree.slack (omega (arith, g.slacks, limited.few))) in
+        let picked = chosen source here near in
         let below : at tree.slack source ≤ at tree.slack spare = picked.1 spare inside spare_still in
-        record { inside = near.inside; still = picked.0; low = picked.1; sources = source_rises (at tree.slack source) below; sinks = sink_rises (at tree.slack source) below }
+        record { inside = here; still = picked.0; low = picked.1; sources = source_rises (at tree.slack source) below; sinks = sink_rises (at tree.slack source) below }
 
   -- some source still has something, so the marks can rise
-  pub can_rise : (tree : Tree) (source : ℕ) → Grown case marks load tree → 0 < sum_to (at load.stock) case.sources → Nearest tree.slack tree.closed case.sources source → Rising case marks tree source
+  pub can_rise : (tree : Tree) (source : ℕ) → Grown case marks load tree → 0 < sum_to (at load.stock) case.sources → Nearest (take case.sources tree.slack) (take case.sources tree.closed) source → Rising case marks tree source
   can_rise tree source g stocked near =
       let spare = sum_some (at load.stock) case.sources stocked in
       rising tree g spare.0 spare.1 spare.2 source near
@@ -290,39 +287,54 @@ module _ (case : Case) (marks : Marks) (load : Load) (limited : Limited case) (m
 
   -- marks and slacks after the marks in the tree rose by the slack of a source
   module _
-      (tree : Tree) (source : ℕ) (closes reaches : ℕ → Bool → Type 0) (source_front slack' sink_front : List ℕ)
+      (tree : Tree) (source : ℕ) (closes reaches : ℕ → Bool → Type 0) (source_front sink_front slack' : List ℕ)
       (g : Grown case marks load tree) (rise : Rising case marks tree source)
       (closed : (i : ℕ) (b : Bool) → i < case.sources → closes i b → b ≡ nat_lt 0 (at tree.closed i))
       (reached : (j : ℕ) (b : Bool) → j < case.sinks → reaches j b → b ≡ nat_lt 0 (round_at tree.reached j))
       (sources : Raised closes (at tree.slack source) (take case.sources marks.source) source_front)
-      (slacks : Lowered (at tree.closed) case.sources (at tree.slack source) tree.slack slack')
+      (slacks : Lowered (take case.sources tree.closed) (at tree.slack source) tree.slack slack')
       (sinks : Raised reaches (at tree.slack source) (take case.sinks marks.sink) sink_front) where
+    few_sources : (row : List ℕ) → length row ≡ 64 → case.sources ≤ length row
+    few_sources row e = omega (arith, limited.few)
+
+    few_sinks : (row : List ℕ) → length row ≡ 64 → case.sinks ≤ length row
+    few_sinks row e = omega (arith, limited.few)
+
     abbrev source' : List ℕ
     source' = renewed case.sources marks.source source_front
 
     abbrev sink' : List ℕ
     sink' = renewed case.sinks marks.sink sink_front
 
-    few_sources : case.sources ≤ 64
-    few_sources = omega (arith, limited.few)
+    source_at : (i : ℕ) → i < case.sources → at source' i ≡ at marks.source i + cond (nat_lt 0 (at tree.closed i)) (at tree.slack source) 0
+    source_at i l =
+        let few = few_sources marks.source marked.sources in
+        let new = sources.raised i (omega (arith, length-take-le case.sources marks.source few)) in
+        rw (renewed_at case.sources marks.source source_front few sources.size i l, ← closed i new.0 l new.1, ← get_or-take case.sources marks.source i 0 l) new.2
 
-    few_sinks : case.sinks ≤ 64
-    few_sinks = omega (arith, limited.few)
+    sink_at : (j : ℕ) → j < case.sinks → at sink' j ≡ at marks.sink j + cond (nat_lt 0 (round_at tree.reached j)) (at tree.slack source) 0
+    sink_at j l =
+        let few = few_sinks marks.sink marked.sinks in
+        let new = sinks.raised j (omega (arith, length-take-le case.sinks marks.sink few)) in
+        rw (renewed_at case.sinks marks.sink sink_front few sinks.size j l, ← reached j new.0 l new.1, ← get_or-take case.sinks marks.sink j 0 l) new.2
+
+    slack_at : (i : ℕ) → i < case.sources → (at tree.closed i ≡ 0 → at slack' i + at tree.slack source ≡ at tree.slack i) × (0 < at tree.closed i → at slack' i ≡ at tree.slack i)
+    slack_at i l =
+        let here : i < length (take case.sources tree.closed) = omega (arith, length-take-le case.sources tree.closed (few_sources tree.closed g.closeds)) in
+        rw (← get_or-take case.sources tree.closed i 0 l) (slacks.lowered i here, slacks.still i here)
 
     of_source : (i : ℕ) → i < case.sources → ((at tree.closed i ≡ 0) × (at source' i ≡ at marks.source i) × (at slack' i + at tree.slack source ≡ at tree.slack i)) ⊎ ((0 < at tree.closed i) × (at source' i ≡ at marks.source i + at tree.slack source) × (at slack' i ≡ at tree.slack i))
     of_source i l =
-        let new = renewed_at (at tree.closed) closes case.sources _ marks.source source_front few_sources marked.sources closed sources i l in
         ⊎_elim
-        (λ (e : at tree.closed i ≡ 0). inl (e, grind (arith, new), slacks.lowered i l e))
-        (λ (ne : at tree.closed i ≡ 0 → ⊥). let c : 0 < at tree.closed i = omega arith in inr (c, grind (arith, new), slacks.still i l c))
+        (λ (e : at tree.closed i ≡ 0). inl (e, grind (arith, source_at i l), (slack_at i l).0 e))
+        (λ (ne : at tree.closed i ≡ 0 → ⊥). let c : 0 < at tree.closed i = omega arith in inr (c, grind (arith, source_at i l), (slack_at i l).1 c))
         (cases_eq (at tree.closed i) 0)
 
     of_sink : (j : ℕ) → j < case.sinks → ((round_at tree.reached j ≡ 0) × (at sink' j ≡ at marks.sink j)) ⊎ ((0 < round_at tree.reached j) × (at sink' j ≡ at marks.sink j + at tree.slack source))
     of_sink j l =
-        let new = renewed_at (round_at tree.reached) reaches case.sinks _ marks.sink sink_front few_sinks marked.sinks reached sinks j l in
         ⊎_elim
-        (λ (e : round_at tree.reached j ≡ 0). inl (e, grind (arith, new)))
-        (λ (ne : round_at tree.reached j ≡ 0 → ⊥). let m : 0 < round_at tree.reached j = omega arith in inr (m, grind (arith, new)))
+        (λ (e : round_at tree.reached j ≡ 0). inl (e, grind (arith, sink_at j l)))
+        (λ (ne : round_at tree.reached j ≡ 0 → ⊥). let m : 0 < round_at tree.reached j = omega arith in inr (m, grind (arith, sink_at j l)))
         (cases_eq (round_at tree.reached j) 0)
 
     lifted : (j : ℕ) → j < case.sinks → 0 < round_at tree.reached j → at sink' j ≡ at marks.sink j + at tree.slack source
@@ -340,8 +352,8 @@ module _ (case : Case) (marks : Marks) (load : Load) (limited : Limited case) (m
           fair = fair;
           source_marks = λ i l. grind (arith, of_source i l, marked.source_marks i l, rise.sources i l);
           sink_marks = λ j l. grind (arith, of_sink j l, marked.sink_marks j l, rise.sinks j l);
-          sources = renewed_size (at tree.closed) closes case.sources _ marks.source source_front few_sources marked.sources closed sources;
-          sinks = renewed_size (round_at tree.reached) reaches case.sinks _ marks.sink sink_front few_sinks marked.sinks reached sinks;
+          sources = renewed_size case.sources marks.source source_front (few_sources marks.source marked.sources) sources.size ∙ marked.sources;
+          sinks = renewed_size case.sinks marks.sink sink_front (few_sinks marks.sink marked.sinks) sinks.size ∙ marked.sinks;
         }
 
     pub raised_tied : Tied case (record { source = source'; sink = sink' }) load
@@ -383,4 +395,4 @@ module _ (case : Case) (marks : Marks) (load : Load) (limited : Limited case) (m
         }
 
     pub raised : Tightened case load source tree (record { source = source'; sink = sink' }) (record tree { slack = slack' })
-    raised = record { grown = grown'; inside = rise.inside; slack = omega (arith, slacks.lowered source rise.inside rise.still); still = rise.still; closed = refl; reached = refl; root = refl }
+    raised = record { grown = grown'; inside = rise.inside; slack = omega (arith, (slack_at source rise.inside).0 rise.still); still = rise.still; closed = refl; reached = refl; root = refl }

@@ -67,9 +67,9 @@ pub record Summed (case : Case) (load : Load) : Type 0 where
   pub wants : length load.want ≡ 64
 
 -- the sink that wants most
-abbrev pub Neediest : List ℕ → ℕ → Option ℕ → Type 0
-Neediest want count (Some j) = (j < count) × (0 < at want j) × ((k : ℕ) → k < count → at want k ≤ at want j)
-Neediest want count None = (k : ℕ) → k < count → at want k ≡ 0
+abbrev pub Neediest : List ℕ → Option ℕ → Type 0
+Neediest want (Some j) = (j < length want) × (0 < at want j) × ((k : ℕ) → k < length want → at want k ≤ at want j)
+Neediest want None = (k : ℕ) → k < length want → at want k ≡ 0
 
 -- a source after a sink was taken into its slack: as it was, or nearer, toward that sink
 abbrev pub Nearer : Case → Marks → ℕ → List ℕ → List ℕ → List ℕ → List ℕ → ℕ → Type 0
@@ -83,9 +83,9 @@ pub record Relaxed (case : Case) (marks : Marks) (sink : ℕ) (slack toward slac
   pub towards : length toward' ≡ 64
 
 -- a source whose slack, or closing, is least
-pub record Nearest (slack closed : List ℕ) (count source : ℕ) : Type 0 where
-  pub inside : source < count
-  pub least : (k : ℕ) → k < count → max (at slack source) (at closed source) ≤ max (at slack k) (at closed k)
+pub record Nearest (slack closed : List ℕ) (source : ℕ) : Type 0 where
+  pub inside : source < length slack
+  pub least : (k : ℕ) → k < length slack → max (at slack source) (at closed source) ≤ max (at slack k) (at closed k)
 
 -- marks after those were raised that are in the tree; of each, `inside` tells whether it is
 pub record Raised (inside : ℕ → Bool → Type 0) (by : ℕ) (mark mark' : List ℕ) : Type 0 where
@@ -93,9 +93,9 @@ pub record Raised (inside : ℕ → Bool → Type 0) (by : ℕ) (mark mark' : Li
   pub size : length mark' ≡ length mark
 
 -- slacks after those were lowered that are not closed
-pub record Lowered (closed : ℕ → ℕ) (count by : ℕ) (slack slack' : List ℕ) : Type 0 where
-  pub lowered : (k : ℕ) → k < count → closed k ≡ 0 → at slack' k + by ≡ at slack k
-  pub still : (k : ℕ) → k < count → 0 < closed k → at slack' k ≡ at slack k
+pub record Lowered (closed : List ℕ) (by : ℕ) (slack slack' : List ℕ) : Type 0 where
+  pub lowered : (k : ℕ) → k < length closed → at closed k ≡ 0 → at slack' k + by ≡ at slack k
+  pub still : (k : ℕ) → k < length closed → 0 < at closed k → at slack' k ≡ at slack k
   pub size : length slack' ≡ 64
 
 -- one item of a row was written; past the row stands d

@@ -36,13 +36,12 @@ struct Market<'a> {
 }
 
 // The sink that wants most, absent where none wants anything: to serve it first keeps the phases few.
-fn neediest(want: &[u32; 64], count: usize) -> Option<usize>
-    requires { count ≤ 64 }
-    ensures { Neediest want.now count result }
+fn neediest(want: &[u32]) -> Option<usize>
+    ensures { Neediest want.now result }
 {
     let mut found = None;
     let mut most = 0;
-    for (j, &want) in want[..count].iter().enumerate() {
+    for (j, &want) in want.iter().enumerate() {
         if want > most {
             most = want;
             found = Some(j);

@@ -51,13 +51,13 @@ fn relax(market: &Market, slack: &mut [u32; 64], toward: &mut [u32; 64], sink: u
 }
 
 // The first source with the least slack that is not closed.
-fn nearest(slack: &[u32; 64], closed: &[u32; 64], count: usize) -> usize
-    requires { (0 < count) × (count ≤ 64) }
-    ensures { Nearest slack.now closed.now count result }
+fn nearest(slack: &[u32], closed: &[u32]) -> usize
+    requires { (0 < length slack.now) × (length slack.now ≤ length closed.now) }
+    ensures { Nearest slack.now closed.now result }
 {
     let mut source = 0;
     let mut least = u32::MAX;
-    for (i, slack) in slack[..count].iter().enumerate() {
+    for (i, slack) in slack.iter().enumerate() {
         let here = (*slack).max(closed[i]);
         if here < least {
             least = here;
@@ -80,11 +80,12 @@ fn raise_marks<F: Fn(usize) -> bool>(marks: &mut [u32], is_inside: F, by: u32)
 }
 
 // Lowers the slack of the other sources.
-fn lower_slacks(slack: &mut [u32; 64], closed: &[u32; 64], count: usize, by: u32)
-    requires { (count ≤ 64) × (((i : ℕ) → i < count → at closed.now i ≡ 0 → by ≤ at slack.old i)) }
-    ensures { Lowered (at closed.now) count by slack.old slack.new }
+fn lower_slacks(slack: &mut [u32; 64], closed: &[u32], by: u32)
+    requires few { length closed.now ≤ 64 }
+    requires falls { (i : ℕ) → i < length closed.now → at closed.now i ≡ 0 → by ≤ at slack.old i }
+    ensures { Lowered closed.now by slack.old slack.new }
 {
-    for (i, slack) in slack[..count].iter_mut().enumerate() {
+    for (i, slack) in slack[..closed.len()].iter_mut().enumerate() {
         let fall = if closed[i] == 0 { by } else { 0 };
         *slack -= fall;
     }
@@ -166,7 +167,8 @@ impl Tree {
         let Case { sources, sinks, .. } = *market.case;
         let marks = &mut market.marks;
         raise_marks(&mut marks.source[..sources], |i| self.closed[i] > 0, by);
-        lower_slacks(&mut self.slack, &self.closed, sources, by);
+        let closed = &self.closed[..sources];
+        lower_slacks(&mut self.slack, closed, by);
         raise_marks(&mut marks.sink[..sinks], |j| self.reached[j].is_some(), by);
     }
 
@@ -179,8 +181,9 @@ impl Tree {
         ensures case { market.new.case.now ≡ market.old.case.now }
         ensures load { market.new.load ≡ market.old.load }
     {
-        for n in 0..market.case.sources {
-            let source = nearest(&self.slack, &self.closed, market.case.sources);
+        let sources = market.case.sources;
+        for n in 0..sources {
+            let source = nearest(&self.slack[..sources], &self.closed[..sources]);
             self.raise(market, source);
             if market.load.stock[source] > 0 {
                 return source;

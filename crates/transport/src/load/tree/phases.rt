@@ -79,7 +79,7 @@ impl Market<'_> {
         ensures { Optimal self.old.case.now result }
     {
         let mut phases: u32 = 0;
-        while let Some(root) = neediest(&self.load.want, self.case.sinks) {
+        while let Some(root) = neediest(&self.load.want[..self.case.sinks]) {
             self.phase(root);
             phases = phases.saturating_add(1);
         }

@@ -8,7 +8,7 @@ raise-requires-clause-rises c =
     let market = c.loop-n.market in
     let inv = c.loop-n.invariant in
     let stocked : 0 < sum_to (at market.load.stock) market.case.now.sources = rw (inv.5, inv.4) c.requires.stocked in
-    can_rise market.case.now market.marks market.load market.limited market.marked market.tied c.loop-n.self c.nearest-source.result inv.0 stocked c.nearest-source.ensures
+    can_rise market.case.now market.marks market.load market.limited market.marked market.tied c.loop-n.self c.nearest-source.result inv.0 stocked (rw inv.4 c.nearest-source.ensures)
 
 pub unreachable-requires : goal.unreachable-requires
 unreachable-requires c =
