@@ -23,10 +23,9 @@ struct Reached {
 #[derive(Clone, Copy)]
 struct Tree {
     root: usize,
-    // Of each source: how far it is from being tight with a reached sink, and with which one it is least far, as a u32,
-    // since rows of two widths are walked more slowly than rows of one.
+    // Of each source: how far it is from being tight with a reached sink, and with which one it is least far.
     slack: [u32; 64],
-    toward: [u32; 64],
+    toward: [usize; 64],
     // u32::MAX for a source that was taken in, so that no slack passes it, and 0 for the others. With bools here a plan
     // takes 1.25 times as long, and with one array of structs for the three 2.3 times.
     closed: [u32; 64],
@@ -34,7 +33,7 @@ struct Tree {
 }
 
 // Takes a reached sink into the slacks.
-fn relax(market: &Market, slack: &mut [u32; 64], toward: &mut [u32; 64], sink: usize)
+fn relax(market: &Market, slack: &mut [u32; 64], toward: &mut [usize; 64], sink: usize)
     requires { sink < market.now.case.now.sinks }
     ensures { Relaxed market.now.case.now market.now.marks sink slack.old toward.old slack.new toward.new }
 {
@@ -46,7 +45,7 @@ fn relax(market: &Market, slack: &mut [u32; 64], toward: &mut [u32; 64], sink: u
         let was = *slack;
         let there = toward[i];
         *slack = if gap < was { gap } else { was };
-        toward[i] = if gap < was { sink as u32 } else { there };
+        toward[i] = if gap < was { sink } else { there };
     }
 }
 
@@ -101,7 +100,7 @@ impl Tree {
         ensures root { result.root ≡ root }
     {
         let mut slack = [u32::MAX; 64];
-        let mut toward = [root as u32; 64];
+        let mut toward = [root; 64];
         relax(market, &mut slack, &mut toward, root);
         let mut reached = [None; 64];
         reached[root] = Some(Reached {
@@ -126,7 +125,7 @@ impl Tree {
         requires anew { (round_at self.old.reached sink ≡ 0) × (round_at self.old.reached (at self.old.toward source) ≤ round) }
         ensures { Joined market.now.case.now market.now.marks market.now.load source sink (round + 1) self.old self.new }
     {
-        let ahead = self.reached[self.toward[source] as usize].unwrap();
+        let ahead = self.reached[self.toward[source]].unwrap();
         self.reached[sink] = Some(Reached {
             round,
             parent: source,

@@ -18,7 +18,7 @@ impl Tree {
         ensures { Rerouted case.now self.now source amount flow.old flow.new }
     {
         'back: loop {
-            let sink = self.toward[source] as usize;
+            let sink = self.toward[source];
             flow[64 * source + sink] += amount;
             if sink == self.root {
                 return;
@@ -56,7 +56,7 @@ impl Market<'_> {
         ensures case { self.new.case.now ≡ self.old.case.now }
         ensures fewer { sum_to (at self.new.load.want) self.old.case.now.sinks < sum_to (at self.old.load.want) self.old.case.now.sinks }
     {
-        let ahead = tree.reached[tree.toward[source] as usize].unwrap();
+        let ahead = tree.reached[tree.toward[source]].unwrap();
         let amount = self.load.stock[source].min(ahead.room);
         tree.reroute(self.case, &mut self.load.flow, source, amount);
         self.load.stock[source] -= amount;
