@@ -15,7 +15,7 @@ struct Marks {
     sink: [u32; 64],
 }
 
-// The flow, what each source still has, and what each sink still wants.
+// The flow, flat as in the plan that it becomes, what each source still has, and what each sink still wants.
 #[derive(Clone, Copy)]
 struct Load {
     flow: [u32; 4096],

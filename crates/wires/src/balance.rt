@@ -6,7 +6,7 @@ ghost use Rattle.wires.specs.Wiring.{seated};
 
 use crate::terminal::Terminal;
 
-// The sum of the seated currents.
+// The sum of the seated currents; by a loop, since the toolchain's sum of signed numbers says nothing of its bound.
 pub fn balance_of(rows: &[Option<Terminal>; 64]) -> i64
     ensures answer { result ≡ sum (λ (t : Terminal). t.current) (seated rows.now) }
     ensures settled { Settled (seated rows.now) result }

@@ -1,4 +1,5 @@
-// The audit of a filed plan against the sheet's terminals: one question a loop, each put to the whole list.
+// The audit of a filed plan against the sheet's terminals: one question a loop, each put to the whole list. Sums of
+// signed numbers are loops too, since the toolchain's sum of these says nothing of its bound.
 ghost use Rattle.std.specs.Prelude.{◌≡◌, ◌^◌, ◌≤◌, true, not, [], length, pos, neg_ℤ, ◌≤ℤ◌};
 ghost use Rattle.wires.specs.Wiring.{area, due, flow, lies, net, row_adds, seated, share};
 ghost use Rattle.wires.specs.Marks.{value, worth};
