@@ -12,6 +12,7 @@ ghost use Rattle.sheet.specs.Ledger.{opened};
 
 use crate::net::Net;
 use audit::refusal::Refusal;
+use audit::table::Table;
 use ruler::ruler::Ruler;
 use wires::wire::Wire;
 
@@ -25,6 +26,18 @@ pub struct Sheet<R: Ruler> {
     net: Net,
     ghost upheld: { Upheld (R.meaning ruler) net.table.rows } by { Upheld-prop _ _ },
     ghost planned: { IfPlanned net.plan (Planned (R.meaning ruler) net.table.rows) } by { IfPlanned-prop _ _ _ },
+}
+
+impl Net {
+    // No terminals and no plan.
+    fn empty() -> Net
+        ensures { ledger_of result ≡ opened }
+    {
+        Net {
+            table: Table { rows: [None; 64] },
+            plan: None,
+        }
+    }
 }
 
 impl<R: Ruler> Sheet<R> {
