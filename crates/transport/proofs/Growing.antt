@@ -1,8 +1,8 @@
 -- How a tree grows: from its root, by sinks that join, by raised marks and by closed sources.
-use Rattle.std.proofs.Common.{◌≡◌, ℕ, ◌+◌, ◌*◌, ◌<◌, ◌≤◌, min, max, ◌⊎◌, Option, Some, None, List, length, replicate, refl, ap, ◌∙◌, subst, inl, inr, ⊎_elim, arith, below_more, Bool, cond, nat_lt, ◌++◌, take, drop, length-drop}
+use Rattle.std.proofs.Common.{◌≡◌, ℕ, ◌+◌, ◌*◌, ◌<◌, ◌≤◌, min, max, ◌⊎◌, Option, Some, None, List, length, replicate, refl, ap, ◌∙◌, subst, inl, inr, ⊎_elim, arith, below_more, is_some, cond, nat_lt, ◌++◌, take, drop, length-drop}
 use Rattle.std.proofs.lemmas.List.{get_or-take, length-take-le, length-append, get_or_append_left}
 use Rattle.std.proofs.lemmas.Bool.{cases_eq}
-use Rattle.transport.proofs.Writes.{blank}
+use Rattle.transport.proofs.Writes.{blank, some_round}
 use Rattle.transport.proofs.Sums.{sum_change, sum_some, sum_open}
 use Rattle.transport.specs.declared.case.Case.{Case}
 use Rattle.transport.specs.declared.load.Marks.{Marks}
@@ -10,7 +10,7 @@ use Rattle.transport.specs.declared.load.Load.{Load}
 use Rattle.transport.specs.declared.load.tree.Reached.{Reached}
 use Rattle.transport.specs.declared.load.tree.Tree.{Tree}
 use Rattle.transport.specs.Transport.{at, cell, cost_of, sum_to}
-use Rattle.transport.specs.Solver.{round_of, parent_of, room_of, round_at, parent_at, room_at, Limited, Marked, Tied, Back, Grown, Joined, Absorbed, Relaxed, Nearer, Put, Raised, Lowered, Nearest, Rising, Tightened}
+use Rattle.transport.specs.Solver.{round_of, parent_of, room_of, reached_at, round_at, parent_at, room_at, Limited, Marked, Tied, Back, Grown, Joined, Absorbed, Relaxed, Nearer, Put, Raised, Lowered, Nearest, Rising, Tightened}
 
 -- a row whose first `count` numbers gave way to as many others
 abbrev pub renewed : ℕ → List ℕ → List ℕ → List ℕ
@@ -287,13 +287,11 @@ module _ (case : Case) (marks : Marks) (load : Load) (limited : Limited case) (m
 
   -- marks and slacks after the marks in the tree rose by the slack of a source
   module _
-      (tree : Tree) (source : ℕ) (closes reaches : ℕ → Bool → Type 0) (source_front sink_front slack' : List ℕ)
+      (tree : Tree) (source : ℕ) (source_front sink_front slack' : List ℕ)
       (g : Grown case marks load tree) (rise : Rising case marks tree source)
-      (closed : (i : ℕ) (b : Bool) → i < case.sources → closes i b → b ≡ nat_lt 0 (at tree.closed i))
-      (reached : (j : ℕ) (b : Bool) → j < case.sinks → reaches j b → b ≡ nat_lt 0 (round_at tree.reached j))
-      (sources : Raised closes (at tree.slack source) (take case.sources marks.source) source_front)
+      (sources : Raised (λ i b. b ≡ nat_lt 0 (at tree.closed i)) (at tree.slack source) (take case.sources marks.source) source_front)
       (slacks : Lowered (take case.sources tree.closed) (at tree.slack source) tree.slack slack')
-      (sinks : Raised reaches (at tree.slack source) (take case.sinks marks.sink) sink_front) where
+      (sinks : Raised (λ j b. b ≡ is_some (reached_at tree.reached j)) (at tree.slack source) (take case.sinks marks.sink) sink_front) where
     few_sources : (row : List ℕ) → length row ≡ 64 → case.sources ≤ length row
     few_sources row e = omega (arith, limited.few)
 
@@ -310,13 +308,13 @@ module _ (case : Case) (marks : Marks) (load : Load) (limited : Limited case) (m
     source_at i l =
         let few = few_sources marks.source marked.sources in
         let new = sources.raised i (omega (arith, length-take-le case.sources marks.source few)) in
-        rw (renewed_at case.sources marks.source source_front few sources.size i l, ← closed i new.0 l new.1, ← get_or-take case.sources marks.source i 0 l) new.2
+        rw (renewed_at case.sources marks.source source_front few sources.size i l, ← new.1, ← get_or-take case.sources marks.source i 0 l) new.2
 
     sink_at : (j : ℕ) → j < case.sinks → at sink' j ≡ at marks.sink j + cond (nat_lt 0 (round_at tree.reached j)) (at tree.slack source) 0
     sink_at j l =
         let few = few_sinks marks.sink marked.sinks in
         let new = sinks.raised j (omega (arith, length-take-le case.sinks marks.sink few)) in
-        rw (renewed_at case.sinks marks.sink sink_front few sinks.size j l, ← reached j new.0 l new.1, ← get_or-take case.sinks marks.sink j 0 l) new.2
+        rw (renewed_at case.sinks marks.sink sink_front few sinks.size j l, ← some_round (reached_at tree.reached j), ← new.1, ← get_or-take case.sinks marks.sink j 0 l) new.2
 
     slack_at : (i : ℕ) → i < case.sources → (at tree.closed i ≡ 0 → at slack' i + at tree.slack source ≡ at tree.slack i) × (0 < at tree.closed i → at slack' i ≡ at tree.slack i)
     slack_at i l =
@@ -346,7 +344,7 @@ module _ (case : Case) (marks : Marks) (load : Load) (limited : Limited case) (m
     tight : (i j : ℕ) → i < case.sources → j < case.sinks → 0 < cell load.flow i j → at sink' j ≡ at source' i + cost_of case i j
     tight i j li lj f = grind (arith, of_source i li, of_sink j lj, tied.tight i j li lj f, g.least i j li lj, g.shut_served i j li lj)
 
-    pub raised_marked : Marked case (record { source = source'; sink = sink' })
+    raised_marked : Marked case (record { source = source'; sink = sink' })
     raised_marked =
         record {
           fair = fair;
@@ -356,7 +354,7 @@ module _ (case : Case) (marks : Marks) (load : Load) (limited : Limited case) (m
           sinks = renewed_size case.sinks marks.sink sink_front (few_sinks marks.sink marked.sinks) sinks.size ∙ marked.sinks;
         }
 
-    pub raised_tied : Tied case (record { source = source'; sink = sink' }) load
+    raised_tied : Tied case (record { source = source'; sink = sink' }) load
     raised_tied =
         record {
           tight = tight;
@@ -394,5 +392,8 @@ module _ (case : Case) (marks : Marks) (load : Load) (limited : Limited case) (m
           reacheds = g.reacheds;
         }
 
-    pub raised : Tightened case load source tree (record { source = source'; sink = sink' }) (record tree { slack = slack' })
+    raised : Tightened case load source tree (record { source = source'; sink = sink' }) (record tree { slack = slack' })
     raised = record { grown = grown'; inside = rise.inside; slack = omega (arith, (slack_at source rise.inside).0 rise.still); still = rise.still; closed = refl; reached = refl; root = refl }
+
+    pub risen : Marked case (record { source = source'; sink = sink' }) × Tied case (record { source = source'; sink = sink' }) load × Tightened case load source tree (record { source = source'; sink = sink' }) (record tree { slack = slack' })
+    risen = (raised_marked, raised_tied, raised)

@@ -80,7 +80,7 @@ fn raise_marks<F: Fn(usize) -> bool>(marks: &mut [u32], is_inside: F, by: u32)
     }
 }
 
-// Lowers the slack of the other sources.
+// Lowers the slacks of the sources that are not closed.
 fn lower_slacks(slack: &mut [u32; 64], closed: &[u32], by: u32)
     requires few { length closed.now ≤ 64 }
     requires falls { (i : ℕ) → i < length closed.now → at closed.now i ≡ 0 → by ≤ at slack.old i }
@@ -168,6 +168,7 @@ impl Tree {
         let Case { sources, sinks, .. } = *market.case;
         let marks = &mut market.marks;
         raise_marks(&mut marks.source[..sources], |i| self.closed[i] > 0, by);
+        // The slacks go whole: no proof covers the loan of a part of them while another field is read.
         let closed = &self.closed[..sources];
         lower_slacks(&mut self.slack, closed, by);
         raise_marks(&mut marks.sink[..sinks], |j| self.reached[j].is_some(), by);

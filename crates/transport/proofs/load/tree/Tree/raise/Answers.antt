@@ -1,20 +1,21 @@
-use Rattle.std.proofs.Common.{rules, ◌∙◌}
-use Rattle.transport.specs.Solver.{reached_at}
-use Rattle.transport.proofs.Writes.{some_round}
-use Rattle.transport.proofs.Growing.{raised, raised_marked, raised_tied}
+use Rattle.std.proofs.Common.{rules}
+use Rattle.transport.proofs.Growing.{risen}
 use Rattle.transport.proofs.load.tree.Tree.raise.Goals as goal
 
 pub invariant_of-market : goal.invariant_of-market
 invariant_of-market c =
     let market = c.args.market.now in
-    record {
-      limited = market.limited;
-      marked = raised_marked market.case.now market.marks market.load market.limited market.marked market.tied c.args.self.now c.args.source _ _ _ _ _ c.requires.grown c.requires.rises (λ i b l p. search rules) (λ j b l p. (search rules) ∙ some_round (reached_at c.args.self.now.reached j)) c.raise_marks.ensures c.lower_slacks.ensures c.raise_marks-2.ensures;
-      tied = raised_tied market.case.now market.marks market.load market.limited market.marked market.tied c.args.self.now c.args.source _ _ _ _ _ c.requires.grown c.requires.rises (λ i b l p. search rules) (λ j b l p. (search rules) ∙ some_round (reached_at c.args.self.now.reached j)) c.raise_marks.ensures c.lower_slacks.ensures c.raise_marks-2.ensures;
-      summed = market.summed;
-    }
+    let now =
+    risen market.case.now market.marks market.load market.limited market.marked market.tied c.args.self.now c.args.source c.raise_marks.new.marks c.raise_marks-2.new.marks _ c.requires.grown c.requires.rises
+    (record { raised = λ i l. let new = c.raise_marks.ensures.raised i l in (new.0, search rules, new.2); size = c.raise_marks.ensures.size })
+    c.lower_slacks.ensures
+    (record { raised = λ j l. let new = c.raise_marks-2.ensures.raised j l in (new.0, search rules, new.2); size = c.raise_marks-2.ensures.size }) in
+    record { limited = market.limited; marked = now.0; tied = now.1; summed = market.summed }
 
 pub returns-clause-tightened : goal.returns-clause-tightened
 returns-clause-tightened c =
     let market = c.args.market.now in
-    raised market.case.now market.marks market.load market.limited market.marked market.tied c.args.self.now c.args.source _ _ _ _ _ c.requires.grown c.requires.rises (λ i b l p. search rules) (λ j b l p. (search rules) ∙ some_round (reached_at c.args.self.now.reached j)) c.raise_marks.ensures c.lower_slacks.ensures c.raise_marks-2.ensures
+    (risen market.case.now market.marks market.load market.limited market.marked market.tied c.args.self.now c.args.source c.raise_marks.new.marks c.raise_marks-2.new.marks _ c.requires.grown c.requires.rises
+    (record { raised = λ i l. let new = c.raise_marks.ensures.raised i l in (new.0, search rules, new.2); size = c.raise_marks.ensures.size })
+    c.lower_slacks.ensures
+    (record { raised = λ j l. let new = c.raise_marks-2.ensures.raised j l in (new.0, search rules, new.2); size = c.raise_marks-2.ensures.size })).2
