@@ -1,5 +1,5 @@
 -- The number of every refusal, and the place that it names: an id, a wire counted from 0, a site, or 0.
-use Rattle.std.specs.Prelude.{ℕ}
+use Rattle.std.specs.Prelude.{ℕ, List, ◌++◌, codes, decimal}
 use Rattle.audit.specs.declared.refusal.Refusal.{Refusal}
 use Rattle.audit.specs.declared.refusal.Refusal.TheVariants.{IdOutOfRange, IdTaken, IdFree, CurrentOutOfRange, SiteUnknown, Unbalanced, NotPlanned, MarkCount, WireCount, WireCurrent, WireSite, MarkOutOfRange, Unmet, MarksApart, AreaDiffers}
 
@@ -36,3 +36,7 @@ place_of (MarkOutOfRange id) = id
 place_of (Unmet site) = site
 place_of (MarksApart id) = id
 place_of AreaDiffers = 0
+
+-- how a refusal of that number is shown
+abbrev pub shown : ℕ → List ℕ
+shown number = codes "refused " ++ decimal number

@@ -1,6 +1,6 @@
 // Why a call was refused: each refusal has a number, and a place that it speaks of.
-ghost use Rattle.std.specs.Prelude.{◌≡◌};
-ghost use Rattle.audit.specs.Refusals.{number_of, place_of};
+ghost use Rattle.std.specs.Prelude.{◌≡◌, Some};
+ghost use Rattle.audit.specs.Refusals.{number_of, place_of, shown};
 
 use std::fmt;
 use std::fmt::Display;
@@ -70,6 +70,8 @@ impl Refusal {
 }
 
 impl Display for Refusal {
+    ghost output = { λ refusal. Some (shown (number_of refusal)) };
+
     fn fmt<W: fmt::Write>(&self, f: &mut fmt::Formatter<W>) -> fmt::Result {
         write!(f, "refused {}", self.number())
     }

@@ -1,5 +1,6 @@
 // Why a listing was refused: each refusal has a number, and a place that it speaks of.
-ghost use Rattle.std.specs.Prelude.{◌≡◌};
+ghost use Rattle.std.specs.Prelude.{◌≡◌, Some};
+ghost use Rattle.audit.specs.Refusals.{shown};
 ghost use Rattle.listing.specs.Refusals.{number_of, place_of};
 
 use std::fmt;
@@ -31,6 +32,8 @@ impl Refusal {
 }
 
 impl Display for Refusal {
+    ghost output = { λ refusal. Some (shown (number_of refusal)) };
+
     fn fmt<W: fmt::Write>(&self, f: &mut fmt::Formatter<W>) -> fmt::Result {
         write!(f, "refused {}", self.number())
     }

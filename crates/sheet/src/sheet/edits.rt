@@ -106,9 +106,9 @@ impl<R: Ruler> Sheet<R> {
         ensures asked { result ≡ outcome (site_is_known (R.meaning self.now.ruler) id site) tt }
         ensures known { OnOk result ((R.meaning self.now.ruler).known site ≡ true) }
     {
-        if !self.ruler.known(site) {
+        let Some(_) = self.ruler.length(site, site) else {
             return Err(Refusal::SiteUnknown { id });
-        }
+        };
         Ok(())
     }
 
