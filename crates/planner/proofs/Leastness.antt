@@ -92,6 +92,9 @@ module _ (m : Meaning) (metric : Metric m) (rows : List (Option Terminal)) (up :
   tight : value (pins rows p.marks) ≡ pos (area m (wires_of rows (links_of p)))
   tight = value_laid rows p.marks same ∙ sym (weighed m rows p plan (λ i. neg_ℤ (pos (mark_at p.marks i)))) ∙ area_laid m rows p.marks (links_of p) plan.tight
 
+  pub planned_value : value (pins rows p.marks) ≡ pos p.area
+  planned_value = tight ∙ ap pos (sym plan.area_is)
+
   pub planned_least : Least m (seated rows) (wires_of rows (links_of p))
   planned_least =
       let known = subst (Seated m) (sym seats) up.known in

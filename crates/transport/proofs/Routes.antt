@@ -7,7 +7,7 @@ use Rattle.transport.specs.declared.load.Marks.{Marks}
 use Rattle.transport.specs.declared.load.Load.{Load}
 use Rattle.transport.specs.declared.load.tree.Tree.{Tree}
 use Rattle.transport.specs.Transport.{at, cell, cost_of, sum_to}
-use Rattle.transport.specs.Solver.{round_at, parent_at, room_at, Limited, Tied, Summed, Put, Back, Way, Grown, Rerouted, part}
+use Rattle.transport.specs.Solver.{round_at, parent_at, room_at, Limited, Tied, Summed, Put, Back, Way, Grown, Rerouted, Sent, part}
 use Rattle.transport.proofs.Sums.{sum_change, sum_same, sum_at}
 
 pub part_same : (k i a : ℕ) → k ≡ i → part k i a ≡ a
@@ -179,6 +179,15 @@ module _
         flows = moved.size;
         stocks = stock.size ∙ s.stocks;
         wants = want.size ∙ s.wants;
+      }
+
+  pub sent : 0 < amount → Summed case load → Sent case tree load (record { flow = flow'; stock = stock'; want = want' })
+  sent some s =
+      record {
+        summed = still_summed s;
+        fewer = fewer_wants some;
+        fresh = moved.fresh;
+        stocks = λ i. omega (arith, put_falls load.stock stock' source amount stock fits i);
       }
 
   -- what flows anew flows where it is tight

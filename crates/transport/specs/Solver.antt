@@ -192,3 +192,10 @@ pub record Rerouted (case : Case) (tree : Tree) (start amount : ℕ) (flow flow'
   pub fresh : (i j : ℕ) → i < case.sources → j < case.sinks → 0 < cell flow' i j → (0 < cell flow i j) ⊎ ((at tree.slack i ≡ 0) × (at tree.toward i ≡ j))
   pub fits : amount ≤ room_at tree.reached tree.root
   pub size : length flow' ≡ 4096
+
+-- the load after something was sent from a source to the root
+pub record Sent (case : Case) (tree : Tree) (load load' : Load) : Type 0 where
+  pub summed : Summed case load'
+  pub fewer : sum_to (at load'.want) case.sinks < sum_to (at load.want) case.sinks
+  pub fresh : (i j : ℕ) → i < case.sources → j < case.sinks → 0 < cell load'.flow i j → (0 < cell load.flow i j) ⊎ ((at tree.slack i ≡ 0) × (at tree.toward i ≡ j))
+  pub stocks : (i : ℕ) → at load'.stock i ≤ at load.stock i

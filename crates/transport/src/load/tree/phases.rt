@@ -1,7 +1,7 @@
 // The phases: each grows a tree and sends what it can from the source that it found to the root.
 ghost use Rattle.std.specs.Prelude.{◌≡◌, ℕ, ◌<◌, ◌≤◌, is_some, Some, None};
 ghost use Rattle.transport.specs.Transport.{at, cell, sum_to, within, Optimal};
-ghost use Rattle.transport.specs.Solver.{Limited, Grown, Way, Rerouted, room_at};
+ghost use Rattle.transport.specs.Solver.{Limited, Grown, Way, Rerouted, Sent, room_at};
 
 use crate::case::Case;
 use crate::load::tree::Tree;
@@ -18,45 +18,27 @@ impl Tree {
         ensures { Rerouted case.now self.now source amount flow.old flow.new }
     {
         'back: loop {
-            let sink = self.toward[source];
+            let sink = self.toward[source] as usize;
             flow[64 * source + sink] += amount;
             if sink == self.root {
                 return;
             }
-            source = self.reached[sink].unwrap().parent;
+            source = self.reached[sink].unwrap().parent as usize;
             flow[64 * source + sink] -= amount;
         }
     }
 }
 
 impl Market<'_> {
-    // Nothing is settled yet.
-    fn new(case: &Case) -> Market<'_>
-        requires { Limited case.now }
-        ensures { result.case.now ≡ case.now }
-    {
-        Market {
-            case,
-            marks: Marks {
-                source: [0; 64],
-                sink: [0; 64],
-            },
-            load: Load {
-                flow: [0; 4096],
-                stock: case.supply,
-                want: case.demand,
-            },
-        }
-    }
-
     // Sends what the source has, as far as there is room, to the root of a tree.
     fn send(&mut self, tree: &Tree, source: usize)
         requires grown { Grown self.old.case.now self.old.marks self.old.load tree.now }
         requires inside { (source < self.old.case.now.sources) × ((at tree.now.slack source ≡ 0) × (0 < at self.old.load.stock source)) }
         ensures case { self.new.case.now ≡ self.old.case.now }
-        ensures fewer { sum_to (at self.new.load.want) self.old.case.now.sinks < sum_to (at self.old.load.want) self.old.case.now.sinks }
+        ensures marks { self.new.marks ≡ self.old.marks }
+        ensures sent { Sent self.old.case.now tree.now self.old.load self.new.load }
     {
-        let ahead = tree.reached[tree.toward[source]].unwrap();
+        let ahead = tree.reached[tree.toward[source] as usize].unwrap();
         let amount = self.load.stock[source].min(ahead.room);
         tree.reroute(self.case, &mut self.load.flow, source, amount);
         self.load.stock[source] -= amount;
@@ -100,6 +82,18 @@ pub fn solve(case: &Case) -> Option<Plan>
     if !case.is_within() {
         return None;
     }
-    let mut market = Market::new(case);
+    // Nothing is settled yet.
+    let mut market = Market {
+        case,
+        marks: Marks {
+            source: [0; 64],
+            sink: [0; 64],
+        },
+        load: Load {
+            flow: [0; 4096],
+            stock: case.supply,
+            want: case.demand,
+        },
+    };
     Some(market.settle())
 }
