@@ -11,14 +11,14 @@ mod run;
 
 pub use run::{Step, charted};
 
-fn bare_rows(ring: u32) -> [[u32; 64]; 64]
-    ensures { Filled (bare_at ring) result }
+// Without legs a place is 0 from itself and the ring from any other.
+fn clear(rows: &mut [[u32; 64]; 64], ring: u32)
+    ensures { Filled (bare_at ring) rows.new }
 {
-    let mut rows = [[ring; 64]; 64];
     for (i, row) in rows.iter_mut().enumerate() {
+        row.fill(ring);
         row[i] = 0;
     }
-    rows
 }
 
 // The length before, or the one by way of a leg.
@@ -69,11 +69,24 @@ impl Map {
         requires short { ring ≤ 4000000 }
         ensures { Stands result n ring [] }
     {
-        Map {
-            sites: n,
-            ring,
-            rows: bare_rows(ring),
-        }
+        let mut map = Map {
+            sites: 0,
+            ring: 0,
+            rows: [[0; 64]; 64],
+        };
+        map.renew(n, ring);
+        map
+    }
+
+    // Makes it a map of n sites without legs, in place: a table that is made apart is copied several times.
+    fn renew(&mut self, n: u32, ring: u32)
+        requires few { n ≤ 64 }
+        requires short { ring ≤ 4000000 }
+        ensures { Stands self.new n ring [] }
+    {
+        self.sites = n;
+        self.ring = ring;
+        clear(&mut self.rows, ring);
     }
 
     // Lays a leg between known sites.

@@ -25,7 +25,7 @@ impl Map {
         if ring < 1 || 4_000_000 < ring {
             return Err(Refusal::RingOutOfRange);
         }
-        *self = Map::bare(n, ring);
+        self.renew(n, ring);
         Ok(())
     }
 
