@@ -45,8 +45,21 @@ fn read_net(
     Ok(Some(pins))
 }
 
-// The nets up to the end of the text, or up to the first that is malformed, which is the last and absent.
-fn read_nets(heap: Global, text: &str) -> Result<Vec<Option<Vec<Pin>>>, AllocError> {
+#[derive(Clone, Copy)]
+enum End {
+    Text,
+    Malformed,
+}
+
+// The nets up to the end of the text, or up to the first that is malformed. That one is told beside them, since an
+// entry that may be absent takes a third more memory.
+#[derive(Drop)]
+struct Batch {
+    nets: Vec<Vec<Pin>>,
+    end: End,
+}
+
+fn read_nets(heap: Global, text: &str) -> Result<Batch, AllocError> {
     let mut words = text.split_ascii_whitespace();
     let mut nets = Vec::new(heap);
     // No text has more nets than bytes, and a loop of a program has to end.
@@ -54,14 +67,18 @@ fn read_nets(heap: Global, text: &str) -> Result<Vec<Option<Vec<Pin>>>, AllocErr
         let Some(count) = words.next() else {
             break;
         };
-        let net = read_net(heap, count, &mut words)?;
-        let malformed = net.is_none();
+        let Some(net) = read_net(heap, count, &mut words)? else {
+            return Ok(Batch {
+                nets,
+                end: End::Malformed,
+            });
+        };
         nets.push(net)?;
-        if malformed {
-            break;
-        }
     }
-    Ok(nets)
+    Ok(Batch {
+        nets,
+        end: End::Text,
+    })
 }
 
 // A net's sheet, its plan and its area.
@@ -82,17 +99,17 @@ fn area_of(pins: &[Pin]) -> Result<u64, Refusal> {
 }
 
 // A line for each net.
-fn print_areas(rt: &HostRuntime, nets: &[Option<Vec<Pin>>]) -> io::Result<()> {
-    for net in nets {
-        let Some(pins) = net else {
-            return println!(rt; "malformed");
-        };
+fn print_areas(rt: &HostRuntime, batch: &Batch) -> io::Result<()> {
+    for pins in &batch.nets {
         match area_of(pins.as_slice()) {
             Ok(area) => println!(rt; "{area}")?,
             Err(refusal) => println!(rt; "{refusal}")?,
         }
     }
-    Ok(())
+    match batch.end {
+        End::Text => Ok(()),
+        End::Malformed => println!(rt; "malformed"),
+    }
 }
 
 // How long planning takes: every net is planned again and again, and the time goes to standard error.
@@ -114,13 +131,10 @@ fn plan_often(sheet: &mut Sheet<Plane>, current: i32, rounds: u32) -> u64 {
 }
 
 // Nets without pins and nets that are refused are left out.
-fn report(rt: &HostRuntime, nets: &[Option<Vec<Pin>>], rounds: u32) -> io::Result<()> {
+fn report(rt: &HostRuntime, nets: &[Vec<Pin>], rounds: u32) -> io::Result<()> {
     let mut nanos = 0u128;
     let mut plans = 0u64;
-    for net in nets {
-        let Some(pins) = net else {
-            continue;
-        };
+    for pins in nets {
         let Some(first) = pins.first() else {
             continue;
         };
@@ -158,21 +172,22 @@ fn rounds_asked(rt: &HostRuntime) -> io::Result<Option<u32>> {
 }
 
 // An input that is no text is malformed from its start.
-fn read_input(rt: &HostRuntime, heap: Global) -> Result<Vec<Option<Vec<Pin>>>, AllocError> {
-    if let Ok(text) = io::read_to_string(heap, rt.stdin()) {
-        return read_nets(heap, text.as_str());
+fn read_input(rt: &HostRuntime, heap: Global) -> Result<Batch, AllocError> {
+    match io::read_to_string(heap, rt.stdin()) {
+        Ok(text) => read_nets(heap, text.as_str()),
+        Err(_) => Ok(Batch {
+            nets: Vec::new(heap),
+            end: End::Malformed,
+        }),
     }
-    let mut nets = Vec::new(heap);
-    nets.push(None)?;
-    Ok(nets)
 }
 
 fn main(rt: HostRuntime) -> io::Result<()> {
     let rounds = rounds_asked(&rt)?;
-    let nets = read_input(&rt, rt.alloc())?;
-    print_areas(&rt, nets.as_slice())?;
+    let batch = read_input(&rt, rt.alloc())?;
+    print_areas(&rt, &batch)?;
     if let Some(rounds) = rounds {
-        report(&rt, nets.as_slice(), rounds)?;
+        report(&rt, batch.nets.as_slice(), rounds)?;
     }
     Ok(())
 }

@@ -51,8 +51,20 @@ fn read_map(
     Ok(Some(steps))
 }
 
-// The maps up to the end of the text, or up to the first that is malformed, which is the last and absent.
-fn read_maps(heap: Global, text: &str) -> Result<Vec<Option<Vec<Step>>>, AllocError> {
+#[derive(Clone, Copy)]
+enum End {
+    Text,
+    Malformed,
+}
+
+// The maps up to the end of the text, or up to the first that is malformed. That one is told beside them, as in `batch`.
+#[derive(Drop)]
+struct Atlas {
+    maps: Vec<Vec<Step>>,
+    end: End,
+}
+
+fn read_maps(heap: Global, text: &str) -> Result<Atlas, AllocError> {
     let mut words = text.split_ascii_whitespace();
     let mut maps = Vec::new(heap);
     // No text has more maps than bytes, and a loop of a program has to end.
@@ -60,14 +72,18 @@ fn read_maps(heap: Global, text: &str) -> Result<Vec<Option<Vec<Step>>>, AllocEr
         let Some(sites) = words.next() else {
             break;
         };
-        let map = read_map(heap, sites, &mut words)?;
-        let malformed = map.is_none();
+        let Some(map) = read_map(heap, sites, &mut words)? else {
+            return Ok(Atlas {
+                maps,
+                end: End::Malformed,
+            });
+        };
         maps.push(map)?;
-        if malformed {
-            break;
-        }
     }
-    Ok(maps)
+    Ok(Atlas {
+        maps,
+        end: End::Text,
+    })
 }
 
 // The lengths of a map; a map whose begin was refused knows no site and has no line.
@@ -92,14 +108,14 @@ fn print_lengths(rt: &HostRuntime, map: &Map) -> io::Result<()> {
     Ok(())
 }
 
-fn print_maps(rt: &HostRuntime, maps: &[Option<Vec<Step>>]) -> io::Result<()> {
-    for map in maps {
-        let Some(steps) = map else {
-            return println!(rt; "malformed");
-        };
+fn print_maps(rt: &HostRuntime, atlas: &Atlas) -> io::Result<()> {
+    for steps in &atlas.maps {
         print_lengths(rt, &charted(steps.as_slice()))?;
     }
-    Ok(())
+    match atlas.end {
+        End::Text => Ok(()),
+        End::Malformed => println!(rt; "malformed"),
+    }
 }
 
 // How long a leg takes: every map is made again and again, and the time goes to standard error.
@@ -114,14 +130,11 @@ fn chart_often(steps: &[Step], rounds: u32) -> u64 {
     sum
 }
 
-fn report(rt: &HostRuntime, maps: &[Option<Vec<Step>>], rounds: u32) -> io::Result<()> {
+fn report(rt: &HostRuntime, maps: &[Vec<Step>], rounds: u32) -> io::Result<()> {
     let mut nanos = 0u128;
     let mut legs = 0u64;
     let mut sum = 0u64;
-    for map in maps {
-        let Some(steps) = map else {
-            continue;
-        };
+    for steps in maps {
         let start = Instant::now(rt)?;
         sum = sum.saturating_add(chart_often(steps.as_slice(), rounds));
         nanos = nanos.saturating_add(start.elapsed(rt)?.as_nanos());
@@ -155,21 +168,22 @@ fn rounds_asked(rt: &HostRuntime) -> io::Result<Option<u32>> {
 }
 
 // An input that is no text is malformed from its start.
-fn read_input(rt: &HostRuntime, heap: Global) -> Result<Vec<Option<Vec<Step>>>, AllocError> {
-    if let Ok(text) = io::read_to_string(heap, rt.stdin()) {
-        return read_maps(heap, text.as_str());
+fn read_input(rt: &HostRuntime, heap: Global) -> Result<Atlas, AllocError> {
+    match io::read_to_string(heap, rt.stdin()) {
+        Ok(text) => read_maps(heap, text.as_str()),
+        Err(_) => Ok(Atlas {
+            maps: Vec::new(heap),
+            end: End::Malformed,
+        }),
     }
-    let mut maps = Vec::new(heap);
-    maps.push(None)?;
-    Ok(maps)
 }
 
 fn main(rt: HostRuntime) -> io::Result<()> {
     let rounds = rounds_asked(&rt)?;
-    let maps = read_input(&rt, rt.alloc())?;
-    print_maps(&rt, maps.as_slice())?;
+    let atlas = read_input(&rt, rt.alloc())?;
+    print_maps(&rt, &atlas)?;
     if let Some(rounds) = rounds {
-        report(&rt, maps.as_slice(), rounds)?;
+        report(&rt, atlas.maps.as_slice(), rounds)?;
     }
     Ok(())
 }
